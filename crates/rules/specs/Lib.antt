@@ -1,0 +1,16 @@
+pub mod Bounds
+pub mod First
+pub mod Below
+pub mod Sums
+pub mod Refusals
+pub mod Sheet
+pub mod Worth
+pub mod Roster
+pub mod Pairs
+pub mod Matching
+pub mod Schedule
+pub mod Setting
+pub mod Tests
+pub mod Settle
+pub mod Settling
+pub mod Calls

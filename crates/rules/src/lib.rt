@@ -1,0 +1,15 @@
+//! The rules of a settlement day, as definitions that the contracts of the other crates cite.
+//!
+//! The definitions stand in `specs/`, one subject a file, and the lemmas about them in `proofs/`.
+//! Each function here carries a theorem in its contract, so that the check asks for its proof.
+ghost use Rattle.rules.specs.Settling.{Settle-is-passes-until-one-settles-nothing as SettleIsPasses, Queue-is-in-order as QueueIsInOrder};
+
+/// Settle makes passes over the waiting pairs, in queue order, until one settles nothing.
+pub fn settle_makes_passes()
+    ensures { λ _. ⌜ SettleIsPasses ⌝ }
+{}
+
+/// Under every queue order the queue is in order and holds each pair once.
+pub fn queue_is_in_order()
+    ensures { λ _. ⌜ QueueIsInOrder ⌝ }
+{}

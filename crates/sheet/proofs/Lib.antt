@@ -1,0 +1,2 @@
+mod Three
+mod Rounding

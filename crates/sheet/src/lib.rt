@@ -1,0 +1,10 @@
+//! The rate sheet of a day: its currencies, each with a rate, a haircut and a number of instalments.
+mod adding;
+mod currency;
+mod reading;
+mod sheet;
+mod text;
+
+pub use currency::Currency;
+pub use sheet::Sheet;
+pub use text::same;

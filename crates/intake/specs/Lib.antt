@@ -1,0 +1,5 @@
+pub mod Ranges
+pub mod Members
+pub mod Rosters
+pub mod Parties
+pub mod Books

@@ -1,0 +1,25 @@
+ghost use mathlib.Core.Path.{_≡_};
+ghost use Prim.Native.Nat.{ℕ, _≤_};
+ghost use Rattle.std.specs.Of.Vec.{vec-items, vec-len, vec-cap};
+ghost use Rattle.sheet.specs.Meaning.{sheet-of};
+ghost use Rattle.intake.specs.Parties.{Listed, Counted};
+use crate::member::Member;
+use crate::pair::Pair;
+use book::Row;
+use sheet::Sheet;
+
+/// What a session opens with: the sheet, the members, the pairs, and memory for the queue and the rows.
+#[derive(Drop)]
+pub struct Opening {
+    pub sheet: Sheet,
+    pub members: Vec<Member>,
+    pub pairs: Vec<Pair>,
+    pub queue: Vec<Pair>,
+    pub rows: Vec<Row>,
+    ghost few: { vec-len members ≤ 32 },
+    ghost fewer: { vec-len pairs ≤ 1024 },
+    ghost listed: { Listed (vec-items pairs) (vec-len members) (sheet-of sheet .currencies) },
+    ghost counted: { Counted (vec-items pairs) },
+    ghost no_queue: { (vec-len queue ≡ 0) × (1024 ≤ vec-cap queue) },
+    ghost no_rows: { (vec-len rows ≡ 0) × (32 ≤ vec-cap rows) },
+}

@@ -14,3 +14,6 @@ pub mod Tests
 pub mod Settle
 pub mod Settling
 pub mod Calls
+pub mod Wording
+pub mod FileForm
+pub mod FileRecords

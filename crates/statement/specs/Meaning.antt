@@ -7,6 +7,7 @@ use Rattle.rules.specs.Wording as rules
 use Rattle.statement.specs.declared.entry.Entry.{Entry}
 use Rattle.statement.specs.declared.statement.Statement.{Statement}
 use Rattle.statement.specs.Held.{text-of}
+use Rattle.statement.specs.Room.{most-entries}
 
 abbrev pub entry-of : Entry → rules.Entry
 entry-of e = record { code = e .code; account = e .account .0; paid-in = e .«paid_in» .0; paid-out = e .«paid_out» .0; due = e .due .0 }
@@ -15,7 +16,7 @@ entry-of e = record { code = e .code; account = e .account .0; paid-in = e .«pa
 abbrev pub written : Statement → List ℕ
 written s = text-of (s .text)
 
--- one more line, or nothing changed where 24 currencies are there
+-- one more line, or nothing changed where the most that a statement has are there
 abbrev pub Added : Statement → rules.Entry → Bool → Statement → Type 0
-Added old e true new = (old .entries < 24) × (new .entries ≡ old .entries + 1) × (written new ≡ written old ++ rules.entry-line e)
-Added old e false new = (24 ≤ old .entries) × (new ≡ old)
+Added old e true new = (old .entries < most-entries) × (new .entries ≡ old .entries + 1) × (written new ≡ written old ++ rules.entry-line e)
+Added old e false new = (most-entries ≤ old .entries) × (new ≡ old)

@@ -8,6 +8,7 @@ ghost use Rattle.std.specs.Options.{isSome};
 ghost use Rattle.rules.specs.Wording.{layer-name, refusal-line};
 ghost use Rattle.refusal.specs.Meaning.{layer-of, refusal-of};
 ghost use Rattle.statement.specs.Held.{text-of, Copied};
+ghost use Rattle.statement.specs.Room.{room, refusal-room};
 use crate::text::Text;
 use refusal::Layer;
 use refusal::Refusal;
@@ -16,7 +17,7 @@ use refusal::Refusal;
 /// Or nothing, and every byte of `buf` as it was, where it is longer than `buf`: 128 bytes always suffice.
 pub fn write_refusal(e: &Refusal, buf: &mut [u8]) -> Option<usize>
     ensures copied { λ r. ⌜ Copied (refusal-line (refusal-of (now (e .entry)))) (now (buf .entry)) r (now (buf .exit)) ⌝ }
-    ensures fits { λ r. ⌜ (128 ≤ length (now (buf .entry)) → isSome r ≡ true) ⌝ }
+    ensures fits { λ r. ⌜ (refusal-room ≤ length (now (buf .entry)) → isSome r ≡ true) ⌝ }
 {
     let mut text = Text::new();
     put_refusal(&mut text, e);
@@ -24,9 +25,9 @@ pub fn write_refusal(e: &Refusal, buf: &mut [u8]) -> Option<usize>
 }
 
 fn put_refusal(text: &mut Text, e: &Refusal)
-    requires { ⌜ now text .len + 122 ≤ 2674 ⌝ }
+    requires { ⌜ now text .len + refusal-room ≤ room ⌝ }
     ensures text { λ _. ⌜ text-of (now (text .exit)) ≡ text-of (now (text .entry)) ++ refusal-line (refusal-of (now (e .entry))) ⌝ }
-    ensures len { λ _. ⌜ now (text .exit) .len ≤ now (text .entry) .len + 122 ⌝ }
+    ensures len { λ _. ⌜ now (text .exit) .len ≤ now (text .entry) .len + refusal-room ⌝ }
 {
     text.put(b"refusal ");
     text.number(u64::from(e.cause.number()));

@@ -8,6 +8,7 @@ ghost use mathlib.Core.Bool.{true};
 ghost use Rattle.std.specs.Written.{decimal, signed};
 ghost use Rattle.rules.specs.Wording.{number-or-dash};
 ghost use Rattle.statement.specs.Held.{text-of, Copied};
+ghost use Rattle.statement.specs.Room.{room, number-room, signed-room};
 
 // Room for the longest statement: a member's line of 24 bytes, 24 lines of 108, and a last one of 58.
 const ROOM: usize = 2_674;
@@ -32,7 +33,7 @@ impl Text {
     }
 
     fn push(&mut self, b: u8)
-        requires { ⌜ now self .len < 2674 ⌝ }
+        requires { ⌜ now self .len < room ⌝ }
         ensures text { λ _. ⌜ text-of (now (self .exit)) ≡ text-of (now (self .entry)) ++ b ∷ [] ⌝ }
         ensures len { λ _. ⌜ now (self .exit) .len ≡ now (self .entry) .len + 1 ⌝ }
     {
@@ -41,7 +42,7 @@ impl Text {
     }
 
     pub(crate) fn put(&mut self, piece: &[u8])
-        requires { ⌜ now self .len + length (now piece) ≤ 2674 ⌝ }
+        requires { ⌜ now self .len + length (now piece) ≤ room ⌝ }
         ensures text { λ _. ⌜ text-of (now (self .exit)) ≡ text-of (now (self .entry)) ++ now (piece .entry) ⌝ }
         ensures len { λ _. ⌜ now (self .exit) .len ≡ now (self .entry) .len + length (now (piece .entry)) ⌝ }
     {
@@ -51,7 +52,7 @@ impl Text {
     }
 
     fn digits(&mut self, n: u64)
-        requires { ⌜ now self .len + length (decimal n) ≤ 2674 ⌝ }
+        requires { ⌜ now self .len + length (decimal n) ≤ room ⌝ }
         ensures text { λ _. ⌜ text-of (now (self .exit)) ≡ text-of (now (self .entry)) ++ decimal n ⌝ }
         ensures len { λ _. ⌜ now (self .exit) .len ≡ now (self .entry) .len + length (decimal n) ⌝ }
     {
@@ -64,18 +65,18 @@ impl Text {
     }
 
     pub(crate) fn number(&mut self, n: u64)
-        requires { ⌜ now self .len + 20 ≤ 2674 ⌝ }
+        requires { ⌜ now self .len + number-room ≤ room ⌝ }
         ensures text { λ _. ⌜ text-of (now (self .exit)) ≡ text-of (now (self .entry)) ++ decimal n ⌝ }
-        ensures len { λ _. ⌜ now (self .exit) .len ≤ now (self .entry) .len + 20 ⌝ }
+        ensures len { λ _. ⌜ now (self .exit) .len ≤ now (self .entry) .len + number-room ⌝ }
     {
         self.digits(n);
     }
 
     /// As `number`, with `-` before a number below 0.
     pub(crate) fn signed(&mut self, z: i64)
-        requires { ⌜ now self .len + 21 ≤ 2674 ⌝ }
+        requires { ⌜ now self .len + signed-room ≤ room ⌝ }
         ensures text { λ _. ⌜ text-of (now (self .exit)) ≡ text-of (now (self .entry)) ++ signed z ⌝ }
-        ensures len { λ _. ⌜ now (self .exit) .len ≤ now (self .entry) .len + 21 ⌝ }
+        ensures len { λ _. ⌜ now (self .exit) .len ≤ now (self .entry) .len + signed-room ⌝ }
     {
         let size = z.unsigned_abs();
         if z < 0 {
@@ -87,9 +88,9 @@ impl Text {
     }
 
     pub(crate) fn number_or_dash(&mut self, n: Option<u8>)
-        requires { ⌜ now self .len + 20 ≤ 2674 ⌝ }
+        requires { ⌜ now self .len + number-room ≤ room ⌝ }
         ensures text { λ _. ⌜ text-of (now (self .exit)) ≡ text-of (now (self .entry)) ++ number-or-dash n ⌝ }
-        ensures len { λ _. ⌜ now (self .exit) .len ≤ now (self .entry) .len + 20 ⌝ }
+        ensures len { λ _. ⌜ now (self .exit) .len ≤ now (self .entry) .len + number-room ⌝ }
     {
         match n {
             Some(k) => self.number(u64::from(k)),
@@ -99,7 +100,7 @@ impl Text {
 
     /// How long the text is, which then stands at the front of `buf`; or nothing, with `buf` as it was, where it is longer.
     pub(crate) fn copy_to(&self, buf: &mut [u8]) -> Option<usize>
-        requires { ⌜ now self .len ≤ 2674 ⌝ }
+        requires { ⌜ now self .len ≤ room ⌝ }
         ensures copied { λ r. ⌜ Copied (text-of (now (self .entry))) (now (buf .entry)) r (now (buf .exit)) ⌝ }
         ensures fits { λ r. ⌜ (now (self .entry) .len ≤ length (now (buf .entry)) → isSome r ≡ true) ⌝ }
     {

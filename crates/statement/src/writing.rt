@@ -8,6 +8,7 @@ ghost use Rattle.std.specs.Options.{isSome};
 ghost use Rattle.rules.specs.Wording.{member-line, entry-line, pairs-line};
 ghost use Rattle.statement.specs.Held.{text-of, Copied};
 ghost use Rattle.statement.specs.Meaning.{entry-of, written, Added};
+ghost use Rattle.statement.specs.Room.{room, longest-name, entry-room, pairs-room};
 use crate::entry::Entry;
 use crate::statement::Statement;
 use crate::text::Text;
@@ -21,7 +22,7 @@ const MOST_ENTRIES: usize = 24;
 impl Statement {
     /// The statement of a member of this name, with no currency yet. A name longer than 16 bytes is cut there.
     pub fn begin(name: &[u8]) -> Statement
-        ensures text { λ r. ⌜ written r ≡ member-line (take 16 (now (name .entry))) ⌝ }
+        ensures text { λ r. ⌜ written r ≡ member-line (take longest-name (now (name .entry))) ⌝ }
         ensures entries { λ r. ⌜ r .entries ≡ 0 ⌝ }
     {
         let len = if name.len() < LONGEST_NAME {
@@ -50,7 +51,7 @@ impl Statement {
     /// Or nothing, and every byte of `buf` as it was, where it is longer than `buf`.
     pub fn end(self, settled: u64, waiting: u64, buf: &mut [u8]) -> Option<usize>
         ensures copied { λ r. ⌜ Copied (written self ++ pairs-line settled waiting) (now (buf .entry)) r (now (buf .exit)) ⌝ }
-        ensures fits { λ r. ⌜ (2674 ≤ length (now (buf .entry)) → isSome r ≡ true) ⌝ }
+        ensures fits { λ r. ⌜ (room ≤ length (now (buf .entry)) → isSome r ≡ true) ⌝ }
     {
         let Statement {
             mut text,
@@ -62,7 +63,7 @@ impl Statement {
 }
 
 fn write_member(text: &mut Text, name: &[u8])
-    requires { ⌜ now text .len + length (now name) + 8 ≤ 2674 ⌝ }
+    requires { ⌜ now text .len + length (now name) + 8 ≤ room ⌝ }
     ensures text { λ _. ⌜ text-of (now (text .exit)) ≡ text-of (now (text .entry)) ++ member-line (now (name .entry)) ⌝ }
     ensures len { λ _. ⌜ now (text .exit) .len ≤ now (text .entry) .len + length (now (name .entry)) + 8 ⌝ }
 {
@@ -72,9 +73,9 @@ fn write_member(text: &mut Text, name: &[u8])
 }
 
 fn write_entry(text: &mut Text, entry: &Entry)
-    requires { ⌜ now text .len + 108 ≤ 2674 ⌝ }
+    requires { ⌜ now text .len + entry-room ≤ room ⌝ }
     ensures text { λ _. ⌜ text-of (now (text .exit)) ≡ text-of (now (text .entry)) ++ entry-line (entry-of (now (entry .entry))) ⌝ }
-    ensures len { λ _. ⌜ now (text .exit) .len ≤ now (text .entry) .len + 108 ⌝ }
+    ensures len { λ _. ⌜ now (text .exit) .len ≤ now (text .entry) .len + entry-room ⌝ }
 {
     text.put(&entry.code);
     text.put(b" account ");
@@ -89,9 +90,9 @@ fn write_entry(text: &mut Text, entry: &Entry)
 }
 
 fn write_pairs(text: &mut Text, settled: u64, waiting: u64)
-    requires { ⌜ now text .len + 58 ≤ 2674 ⌝ }
+    requires { ⌜ now text .len + pairs-room ≤ room ⌝ }
     ensures text { λ _. ⌜ text-of (now (text .exit)) ≡ text-of (now (text .entry)) ++ pairs-line settled waiting ⌝ }
-    ensures len { λ _. ⌜ now (text .exit) .len ≤ now (text .entry) .len + 58 ⌝ }
+    ensures len { λ _. ⌜ now (text .exit) .len ≤ now (text .entry) .len + pairs-room ⌝ }
 {
     text.put(b"settled ");
     text.number(settled);

@@ -14,6 +14,7 @@ pub mod Tests
 pub mod Settle
 pub mod Settling
 pub mod Calls
+pub mod Nostro
 pub mod Wording
 pub mod FileForm
 pub mod FileRecords

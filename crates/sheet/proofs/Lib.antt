@@ -1,2 +1,4 @@
 mod Three
 mod Rounding
+mod Products
+mod Sums

@@ -1,8 +1,9 @@
 -- Laws of the sums.
-use mathlib.Core.Path.{_≡_, refl, sym, ap, _∙_, subst}
+use mathlib.Core.Path.{_≡_, refl, sym, ap, _∙_, subst, fun-ext}
 use mathlib.Core.Bool.{Bool, true, false, cond, _&&_}
 use Prim.Native.Nat.{ℕ, zero, suc, _+_, _*_, _-_, _≤_, _<_}
 use native.Mathlib.Omega.{arith}
+use native.Mathlib.Numerals.{add-one}
 use native.Mathlib.Nat.{mul-le-mul-left, mul-le-mul-right}
 use lib.IntN.{ℤ, pos, negsuc, _+ℤ_, _-ℤ_, _*ℤ_, negℤ}
 use lib.Signed.{_≤ℤ_}
@@ -94,3 +95,19 @@ only-cases m c a m′ c′ = elim (cases-bool (eqb m m′ && eqb c c′)) [
 
 pub only-other : (m c a m′ c′ : ℕ) → (m ≡ m′ → ⊥) → only m c a m′ c′ ≡ 0
 only-other m c a m′ c′ ne = cond-false (eqb m m′ && eqb c c′) a 0 (and-left (eqb m m′) (eqb c c′) (ne-eqb m m′ ne))
+
+-- one number further
+pub total-more : (f : ℕ → ℕ) (k : ℕ) → total (k + 1) f ≡ total k f + f k
+total-more f k = rw add-one refl
+
+pub totalZ-more : (f : ℕ → ℤ) (k : ℕ) → totalZ (k + 1) f ≡ totalZ k f +ℤ f k
+totalZ-more f k = rw add-one refl
+
+pub only-elsewhere : (m c a m′ c′ : ℕ) → (m′ ≡ m → ⊥) ⊎ (c′ ≡ c → ⊥) → only m c a m′ c′ ≡ 0
+only-elsewhere m c a m′ c′ h = elim (only-cases m c a m′ c′) [
+  | inl e ↦ absurd (elim h [ inl n ↦ n (sym (e .0)) | inr n ↦ n (sym (e .1)) ])
+  | inr e ↦ e
+]
+
+pub same-table : {A : Type 0} (f g : ℕ → ℕ → A) → ((m c : ℕ) → f m c ≡ g m c) → f ≡ g
+same-table f g h = fun-ext (λ m. fun-ext (λ c. h m c))

@@ -7,7 +7,8 @@ use Rattle.std.proofs.shelf.Signed.{ints}
 use Rattle.rules.specs.Worth.{adjusted-one}
 use Rattle.sheet.specs.Ranges.{no-currency}
 use Rattle.sheet.specs.Meaning.{sheet-of}
-use Rattle.sheet.proofs.Sums.{totalZ-more, worth-is}
+use Rattle.rules.proofs.Sum.{totalZ-more}
+use Rattle.sheet.proofs.Sums.{worth-is}
 use Rattle.sheet.proofs.sheet.Sheet.adjusted_value.Needs as need
 
 via : (a b c : ℤ) → a ≡ b → b ≡ c → a ≡ c

@@ -2,7 +2,7 @@ use native.Mathlib.Omega.{arith}
 use Prim.Native.Nat.{_*_}
 use Rattle.rules.specs.Worth.{below-0}
 use Rattle.sheet.specs.Meaning.{sheet-of}
-use Rattle.sheet.proofs.Sums.{total-more}
+use Rattle.rules.proofs.Sum.{total-more}
 use Rattle.sheet.proofs.sheet.Sheet.short_marks.Needs as need
 
 pub loop-k-again : need.loop-k-again

@@ -1,12 +1,17 @@
 //! From the finished sheet to the opening of a session: the roster, the instructions and how they match.
+mod adding;
 mod instruction;
 mod intake;
+mod legs;
 mod limits;
 mod member;
+mod mirrors;
 mod name;
+mod names;
 mod opening;
 mod pair;
 mod roster;
+mod shorts;
 
 pub use instruction::Instruction;
 pub use intake::Intake;

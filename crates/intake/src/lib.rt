@@ -12,6 +12,8 @@ mod opening;
 mod pair;
 mod roster;
 mod shorts;
+mod stages;
+mod submitting;
 
 pub use instruction::Instruction;
 pub use intake::Intake;

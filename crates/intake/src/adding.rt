@@ -5,6 +5,7 @@ ghost use lib.ListN.{length, getD};
 ghost use Rattle.std.specs.Of.Vec.{vec-items, vec-len};
 ghost use Rattle.std.specs.shelf.Text.{sameBytes};
 ghost use Rattle.std.specs.declared.option.Option.the-variants.{Some, None};
+ghost use Rattle.rules.specs.Bounds.{most-currencies, most-members};
 ghost use Rattle.rules.specs.Roster.{is-name, name-taken, limits-out-of-range, adding-causes, with-member};
 ghost use Rattle.rules.specs.Refusals as rules;
 ghost use Rattle.refusal.specs.Meaning.{number-of, refusal-of};
@@ -12,6 +13,7 @@ ghost use Rattle.refusal.specs.Answer.{Answers};
 ghost use Rattle.sheet.specs.Meaning.{sheet-of};
 ghost use Rattle.intake.specs.Members.{no-member, member-of, name-of};
 ghost use Rattle.intake.specs.Rosters.{roster-of, Begun};
+use crate::bounds::MOST_MEMBERS;
 use crate::limits::Limits;
 use crate::member::Member;
 use crate::name::Name;
@@ -29,7 +31,7 @@ use units::Marks;
 
 impl Member {
     fn of(name: &[u8], shorts: &[u32], aggregate: Marks) -> Member
-        requires { ⌜ is-name (now name) ≡ true ⌝ ∗ ⌜ length (now shorts) ≤ 24 ⌝ ∗ ⌜ limits-out-of-range (now shorts) (aggregate .0) ≡ false ⌝ }
+        requires { ⌜ is-name (now name) ≡ true ⌝ ∗ ⌜ length (now shorts) ≤ most-currencies ⌝ ∗ ⌜ limits-out-of-range (now shorts) (aggregate .0) ≡ false ⌝ }
         ensures { λ r. ⌜ member-of r ≡ record { name = now (name .entry); short = λ c. getD (now (shorts .entry)) c 0; aggregate = aggregate .0 } ⌝ }
     {
         Member {
@@ -50,7 +52,7 @@ impl Roster {
     pub fn begin(heap: Global, sheet: Sheet) -> Result<Roster, NoMemory<Sheet>>
         ensures { λ r. ⌜ Begun sheet r ⌝ }
     {
-        match Vec::with_capacity(heap, 32) {
+        match Vec::with_capacity(heap, MOST_MEMBERS) {
             Ok(members) => Ok(Roster { sheet, members }),
             Err(_) => Err(NoMemory { given: sheet }),
         }
@@ -59,7 +61,7 @@ impl Roster {
     /// How many members there are.
     pub fn len(&self) -> u8
         ensures count { λ r. ⌜ r ≡ roster-of (now (self .entry)) .members ⌝ }
-        ensures bound { λ r. ⌜ r ≤ 32 ⌝ }
+        ensures bound { λ r. ⌜ r ≤ most-members ⌝ }
     {
         self.members.len() as u8
     }
@@ -105,7 +107,7 @@ impl Roster {
             (roster-of (now (self .exit))) r ⌝ }
         ensures sheet { λ _. ⌜ now (self .exit) .sheet ≡ now (self .entry) .sheet ⌝ }
     {
-        if self.members.len() >= 32 {
+        if self.members.len() >= MOST_MEMBERS {
             return Err(self.refusal(Cause::Full));
         }
         if !is_name(name) {

@@ -1,6 +1,7 @@
 ghost use mathlib.Core.Path.{_≡_};
 ghost use Prim.Native.Nat.{ℕ, _≤_};
 ghost use Rattle.std.specs.Of.Vec.{vec-items, vec-len, vec-cap};
+ghost use Rattle.rules.specs.Bounds.{most-instructions, most-members};
 ghost use Rattle.sheet.specs.Meaning.{sheet-of};
 ghost use Rattle.intake.specs.Parties.{Listed, Counted};
 use crate::instruction::Instruction;
@@ -18,11 +19,11 @@ pub struct Intake {
     pub(crate) pairs: Vec<Pair>,
     pub(crate) queue: Vec<Pair>,
     pub(crate) rows: Vec<Row>,
-    ghost few: { vec-len kept ≤ 1024 },
+    ghost few: { vec-len kept ≤ most-instructions },
     ghost fewer: { vec-len pairs ≤ vec-len kept },
-    ghost room: { (1024 ≤ vec-cap kept) × (1024 ≤ vec-cap pairs) },
+    ghost room: { (most-instructions ≤ vec-cap kept) × (most-instructions ≤ vec-cap pairs) },
     ghost listed: { Listed (vec-items pairs) (vec-len (roster .members)) (sheet-of (roster .sheet) .currencies) },
     ghost counted: { Counted (vec-items pairs) },
-    ghost no_queue: { (vec-len queue ≡ 0) × (1024 ≤ vec-cap queue) },
-    ghost no_rows: { (vec-len rows ≡ 0) × (32 ≤ vec-cap rows) },
+    ghost no_queue: { (vec-len queue ≡ 0) × (most-instructions ≤ vec-cap queue) },
+    ghost no_rows: { (vec-len rows ≡ 0) × (most-members ≤ vec-cap rows) },
 }

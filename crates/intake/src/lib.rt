@@ -1,5 +1,6 @@
 //! From the finished sheet to the opening of a session: the roster, the instructions and how they match.
 mod adding;
+mod bounds;
 mod instruction;
 mod intake;
 mod legs;

@@ -1,5 +1,6 @@
 ghost use mathlib.Core.Path.{_≡_};
 ghost use Prim.Native.Nat.{ℕ, _*_, _≤_};
+ghost use Rattle.rules.specs.Bounds.{most-rate};
 ghost use Rattle.rules.specs.Matching.{mirror, mirrors, same-name, of-pair, off-range, pair-from};
 ghost use Rattle.std.specs.declared.option.Option.the-variants.{Some, None};
 ghost use Rattle.rules.specs.Refusals as rules;
@@ -7,6 +8,7 @@ ghost use Rattle.refusal.specs.Meaning.{number-of, refusal-of};
 ghost use Rattle.intake.specs.Ranges.{Matched};
 ghost use Rattle.intake.specs.Parties.{pair-of};
 ghost use Rattle.intake.specs.Books.{instruction-of};
+use crate::bounds::MOST_UNITS;
 use crate::instruction::Instruction;
 use crate::pair::Pair;
 use refusal::Cause;
@@ -53,9 +55,9 @@ impl Instruction {
         ensures { λ r. ⌜ r ≡ off-range (instruction-of (now (self .entry))) ⌝ }
     {
         self.bought.0 < 1
-            || self.bought.0 > 1_000_000_000
+            || self.bought.0 > MOST_UNITS
             || self.sold.0 < 1
-            || self.sold.0 > 1_000_000_000
+            || self.sold.0 > MOST_UNITS
     }
 
     pub(crate) fn refusal(&self, cause: Cause) -> Refusal
@@ -72,7 +74,7 @@ impl Instruction {
 
     /// The pair whose first party submitted this instruction.
     pub(crate) fn pair(&self, number: u32, rate: u32) -> Pair
-        requires { ⌜ Matched (now self .submitter) (now self .counterparty) (now self .buys) (now self .bought .0) (now self .sells) (now self .sold .0) ⌝ ∗ ⌜ rate ≤ 200000 ⌝ }
+        requires { ⌜ Matched (now self .submitter) (now self .counterparty) (now self .buys) (now self .bought .0) (now self .sells) (now self .sold .0) ⌝ ∗ ⌜ rate ≤ most-rate ⌝ }
         ensures { λ r. ⌜ pair-of r ≡ pair-from (λ _. rate) number (instruction-of (now (self .entry))) ⌝ }
     {
         Pair {

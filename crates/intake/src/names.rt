@@ -6,6 +6,7 @@ ghost use Rattle.std.specs.shelf.Text.{sameBytes};
 ghost use Rattle.rules.specs.Below.{some-below};
 ghost use Rattle.rules.specs.Roster.{stray, is-name};
 ghost use Rattle.intake.specs.Members.{name-of};
+use crate::bounds::LONGEST_NAME;
 use crate::name::Name;
 
 fn is_stray(b: u8) -> bool
@@ -29,7 +30,7 @@ fn has_stray(name: &[u8]) -> bool
 pub(crate) fn is_name(name: &[u8]) -> bool
     ensures { λ r. ⌜ r ≡ is-name (now (name .entry)) ⌝ }
 {
-    name.len() >= 1 && name.len() <= 16 && !has_stray(name)
+    name.len() >= 1 && name.len() <= LONGEST_NAME && !has_stray(name)
 }
 
 fn padded(name: &[u8]) -> [u8; 16]

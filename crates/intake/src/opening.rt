@@ -1,6 +1,7 @@
 ghost use mathlib.Core.Path.{_≡_};
 ghost use Prim.Native.Nat.{ℕ, _≤_};
 ghost use Rattle.std.specs.Of.Vec.{vec-items, vec-len, vec-cap};
+ghost use Rattle.rules.specs.Bounds.{most-instructions, most-members};
 ghost use Rattle.sheet.specs.Meaning.{sheet-of};
 ghost use Rattle.intake.specs.Parties.{Listed, Counted};
 use crate::member::Member;
@@ -16,10 +17,10 @@ pub struct Opening {
     pub pairs: Vec<Pair>,
     pub queue: Vec<Pair>,
     pub rows: Vec<Row>,
-    ghost few: { vec-len members ≤ 32 },
-    ghost fewer: { vec-len pairs ≤ 1024 },
+    ghost few: { vec-len members ≤ most-members },
+    ghost fewer: { vec-len pairs ≤ most-instructions },
     ghost listed: { Listed (vec-items pairs) (vec-len members) (sheet-of sheet .currencies) },
     ghost counted: { Counted (vec-items pairs) },
-    ghost no_queue: { (vec-len queue ≡ 0) × (1024 ≤ vec-cap queue) },
-    ghost no_rows: { (vec-len rows ≡ 0) × (32 ≤ vec-cap rows) },
+    ghost no_queue: { (vec-len queue ≡ 0) × (most-instructions ≤ vec-cap queue) },
+    ghost no_rows: { (vec-len rows ≡ 0) × (most-members ≤ vec-cap rows) },
 }

@@ -1,5 +1,6 @@
 ghost use Prim.Native.Nat.{ℕ, _≤_};
 ghost use Rattle.std.specs.Of.Vec.{vec-len, vec-cap};
+ghost use Rattle.rules.specs.Bounds.{most-members};
 use crate::member::Member;
 use sheet::Sheet;
 
@@ -8,6 +9,6 @@ use sheet::Sheet;
 pub struct Roster {
     pub(crate) sheet: Sheet,
     pub(crate) members: Vec<Member>,
-    ghost few: { vec-len members ≤ 32 },
-    ghost room: { 32 ≤ vec-cap members },
+    ghost few: { vec-len members ≤ most-members },
+    ghost room: { most-members ≤ vec-cap members },
 }

@@ -3,7 +3,10 @@ ghost use Prim.Native.Nat.{ℕ, _≤_};
 ghost use mathlib.Core.List.{[]};
 ghost use Rattle.std.specs.Of.Vec.{vec-items, vec-len, vec-cap};
 ghost use Rattle.std.specs.Vec.{made};
+ghost use Rattle.rules.specs.Bounds.{most-instructions, most-members};
 ghost use Rattle.intake.specs.Books.{Begun};
+use crate::bounds::MOST_INSTRUCTIONS;
+use crate::bounds::MOST_MEMBERS;
 use crate::instruction::Instruction;
 use crate::intake::Intake;
 use crate::opening::Opening;
@@ -16,13 +19,13 @@ use std::alloc::Global;
 
 /// Memory for all that an intake and the session after it may hold.
 fn memory(heap: Global) -> Result<(Vec<Instruction>, Vec<Pair>, Vec<Pair>, Vec<Row>), AllocError>
-    ensures { λ r. ⌜ made r (λ t. ((vec-len (t .0) ≡ 0) × (vec-items (t .0) ≡ []) × (1024 ≤ vec-cap (t .0))) × ((vec-len (t .1) ≡ 0) × (vec-items (t .1) ≡ []) × (1024 ≤ vec-cap (t .1))) × ((vec-len (t .2) ≡ 0) × (1024 ≤ vec-cap (t .2))) × ((vec-len (t .3) ≡ 0) × (32 ≤ vec-cap (t .3)))) ⌝ }
+    ensures { λ r. ⌜ made r (λ t. ((vec-len (t .0) ≡ 0) × (vec-items (t .0) ≡ []) × (most-instructions ≤ vec-cap (t .0))) × ((vec-len (t .1) ≡ 0) × (vec-items (t .1) ≡ []) × (most-instructions ≤ vec-cap (t .1))) × ((vec-len (t .2) ≡ 0) × (most-instructions ≤ vec-cap (t .2))) × ((vec-len (t .3) ≡ 0) × (most-members ≤ vec-cap (t .3)))) ⌝ }
 {
     Ok((
-        Vec::with_capacity(heap, 1024)?,
-        Vec::with_capacity(heap, 1024)?,
-        Vec::with_capacity(heap, 1024)?,
-        Vec::with_capacity(heap, 32)?,
+        Vec::with_capacity(heap, MOST_INSTRUCTIONS)?,
+        Vec::with_capacity(heap, MOST_INSTRUCTIONS)?,
+        Vec::with_capacity(heap, MOST_INSTRUCTIONS)?,
+        Vec::with_capacity(heap, MOST_MEMBERS)?,
     ))
 }
 

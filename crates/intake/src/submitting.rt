@@ -12,6 +12,7 @@ ghost use Rattle.refusal.specs.Answer.{Answers};
 ghost use Rattle.intake.specs.Rosters.{terms-of};
 ghost use Rattle.intake.specs.Parties.{no-pair, pair-of};
 ghost use Rattle.intake.specs.Books.{no-instruction, instruction-of, book-of, causes-against};
+use crate::bounds::MOST_INSTRUCTIONS;
 use crate::instruction::Instruction;
 use crate::intake::Intake;
 use crate::pair::Pair;
@@ -92,7 +93,7 @@ impl Intake {
     fn refused(&self, i: &Instruction) -> Option<Refusal>
         ensures { λ r. ⌜ BySome r (first-of (causes-against (now (self .entry)) (now (i .entry))) ≡ None) (λ e. first-of (causes-against (now (self .entry)) (now (i .entry))) ≡ Some (refusal-of e)) ⌝ }
     {
-        if self.kept.len() >= 1024 {
+        if self.kept.len() >= MOST_INSTRUCTIONS {
             return Some(i.refusal(Cause::Full));
         }
         if self.is_off_roster(i) {

@@ -11,6 +11,10 @@ ghost use Rattle.refusal.specs.Meaning.{number-of, refusal-of};
 ghost use Rattle.refusal.specs.Answer.{Answers};
 ghost use Rattle.sheet.specs.Meaning.{sheet-of, currency-of};
 ghost use Rattle.sheet.specs.Ranges.{no-currency};
+use crate::bounds::MOST_CURRENCIES;
+use crate::bounds::MOST_HAIRCUT;
+use crate::bounds::MOST_INSTALMENTS;
+use crate::bounds::MOST_RATE;
 use crate::currency::Currency;
 use crate::sheet::Sheet;
 use crate::text::same;
@@ -44,10 +48,10 @@ impl Currency {
         ensures { λ r. ⌜ r ≡ out-of-range (currency-of (now (self .entry))) ⌝ }
     {
         self.rate < 1
-            || self.rate > 200_000
-            || self.haircut > 500
+            || self.rate > MOST_RATE
+            || self.haircut > MOST_HAIRCUT
             || self.instalments < 1
-            || self.instalments > 5
+            || self.instalments > MOST_INSTALMENTS
     }
 }
 
@@ -57,7 +61,7 @@ impl Sheet {
         ensures { λ r. ⌜ made r (λ s. sheet-of s ≡ record { currencies = 0; currency = λ _. currency-of no-currency }) ⌝ }
     {
         Ok(Sheet {
-            currencies: Vec::with_capacity(heap, 24)?,
+            currencies: Vec::with_capacity(heap, MOST_CURRENCIES)?,
         })
     }
 
@@ -99,7 +103,7 @@ impl Sheet {
             (with-currency (sheet-of (now (self .entry))) (record { code = now (code .entry); rate = rate; haircut = haircut; instalments = instalments }))
             (sheet-of (now (self .exit))) r ⌝ }
     {
-        if self.currencies.len() >= 24 {
+        if self.currencies.len() >= MOST_CURRENCIES {
             return Err(self.refusal(Cause::Full));
         }
         let Some(code) = letters(code) else {

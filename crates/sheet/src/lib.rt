@@ -1,6 +1,7 @@
 //! The rate sheet of a day: its currencies, each with a rate, a haircut and a number of instalments.
 mod adding;
 mod balances;
+mod bounds;
 mod currency;
 mod reading;
 mod sheet;

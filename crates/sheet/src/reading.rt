@@ -3,6 +3,7 @@ ghost use Prim.Native.Nat.{ℕ, _<_, _≤_};
 ghost use lib.ListN.{getD};
 ghost use Rattle.std.specs.Of.Vec.{vec-items, vec-len};
 ghost use Rattle.std.specs.Options.{Cases as BySome};
+ghost use Rattle.rules.specs.Bounds.{most-currencies, most-rate};
 ghost use Rattle.rules.specs.Schedule.{due};
 ghost use Rattle.sheet.specs.Ranges.{no-currency, Sound};
 ghost use Rattle.sheet.specs.Meaning.{sheet-of};
@@ -25,7 +26,7 @@ impl Sheet {
     /// How many currencies there are.
     pub fn len(&self) -> u8
         ensures count { λ r. ⌜ r ≡ sheet-of (now (self .entry)) .currencies ⌝ }
-        ensures bound { λ r. ⌜ r ≤ 24 ⌝ }
+        ensures bound { λ r. ⌜ r ≤ most-currencies ⌝ }
     {
         self.currencies.len() as u8
     }
@@ -44,7 +45,7 @@ impl Sheet {
     /// The rate of a currency, or 0 if it is not on the sheet.
     pub fn rate(&self, c: u8) -> u32
         ensures value { λ r. ⌜ r ≡ sheet-of (now (self .entry)) .currency c .rate ⌝ }
-        ensures bound { λ r. ⌜ r ≤ 200000 ⌝ }
+        ensures bound { λ r. ⌜ r ≤ most-rate ⌝ }
     {
         match self.currency(c) {
             Some(currency) => currency.rate,

@@ -1,5 +1,6 @@
 ghost use Prim.Native.Nat.{ℕ, _≤_};
 ghost use Rattle.std.specs.Of.Vec.{vec-items, vec-len, vec-cap};
+ghost use Rattle.rules.specs.Bounds.{most-currencies};
 ghost use Rattle.sheet.specs.Ranges.{AllSound};
 use crate::currency::Currency;
 
@@ -8,6 +9,6 @@ use crate::currency::Currency;
 pub struct Sheet {
     pub(crate) currencies: Vec<Currency>,
     ghost sound: { AllSound (vec-items currencies) },
-    ghost few: { vec-len currencies ≤ 24 },
-    ghost room: { 24 ≤ vec-cap currencies },
+    ghost few: { vec-len currencies ≤ most-currencies },
+    ghost room: { most-currencies ≤ vec-cap currencies },
 }

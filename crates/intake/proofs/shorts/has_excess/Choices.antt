@@ -3,7 +3,8 @@ use mathlib.Core.Bool.{false}
 use lib.Dec.{ltb}
 use lib.ListN.{getD}
 use Rattle.rules.specs.Below.{some-below}
+use Rattle.rules.specs.Bounds.{most-units}
 use Rattle.intake.proofs.shorts.has_excess.Given as given
 
 abbrev pub Inv-loop-k : given.InvT-loop-k
-Inv-loop-k l = some-below (l .k) (λ k. ltb 1000000000 (getD (l .shorts) k 0)) ≡ false
+Inv-loop-k l = some-below (l .k) (λ k. ltb most-units (getD (l .shorts) k 0)) ≡ false

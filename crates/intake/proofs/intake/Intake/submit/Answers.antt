@@ -4,6 +4,7 @@ use native.Mathlib.Omega.{arith}
 use Prim.Native.Nat.{ℕ, _+_, _<_}
 use lib.ListN.{length}
 use Rattle.std.specs.Of.Vec.{vec-items, vec-len}
+use Rattle.rules.specs.Matching.{mirror, pair-from}
 use Rattle.rules.specs.Pairs as rules
 use Rattle.rules.proofs.Tables.{pushed}
 use Rattle.intake.specs.Parties.{no-pair, pair-of}
@@ -25,7 +26,7 @@ ghost-self c =
 pub returns-in-Some-pair : need.returns-in-Some-pair
 returns-in-Some-pair c =
     let kept = pushed instruction-of (vec-items (c .args .self .now .kept)) _ (c .args .instruction) no-instruction (vec-len (c .args .self .now .kept)) _ (c .args .self .now .kept .ok .0) (c .push-reserved .ensures .items) refl in
-    let pairs = pushed pair-of (vec-items (c .args .self .now .pairs)) _ (c .in-Some-pair .pair) no-pair (vec-len (c .args .self .now .pairs)) _ (c .args .self .now .pairs .ok .0) (c .push-reserved-in-Some-pair .ensures .items) (c .in-Some-pair .ensures tt .1) in
+    let pairs = pushed pair-of (vec-items (c .args .self .now .pairs)) _ (c .in-Some-pair .pair) no-pair (vec-len (c .args .self .now .pairs)) (pair-from (terms-of (c .args .self .now .roster) .rate) (vec-len (c .args .self .now .pairs) + 1) (mirror (instruction-of (c .args .instruction)))) (c .args .self .now .pairs .ok .0) (c .push-reserved-in-Some-pair .ensures .items) (c .in-Some-pair .ensures tt .1) in
     record {
       answer = (c .in-rest .ensures tt, with-pair (terms-of (c .args .self .now .roster)) (book-of (c .args .self .now)) _ (instruction-of (c .args .instruction)) (c .in-Some-pair .ensures tt .0) (c .push-reserved .ensures .len) kept (c .push-reserved-in-Some-pair .ensures .len) pairs);
       roster = search needs;

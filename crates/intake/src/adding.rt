@@ -90,7 +90,7 @@ impl Roster {
         Refusal {
             cause,
             layer: Layer::Roster,
-            member: Some(self.members.len() as u8),
+            member: Some(self.len()),
             currency: None,
             place: 0,
         }

@@ -24,6 +24,6 @@ pub struct Intake {
     ghost room: { (most-instructions ≤ vec-cap kept) × (most-instructions ≤ vec-cap pairs) },
     ghost listed: { Listed (vec-items pairs) (vec-len (roster .members)) (sheet-of (roster .sheet) .currencies) },
     ghost counted: { Counted (vec-items pairs) },
-    ghost no_queue: { (vec-len queue ≡ 0) × (most-instructions ≤ vec-cap queue) },
-    ghost no_rows: { (vec-len rows ≡ 0) × (most-members ≤ vec-cap rows) },
+    ghost unqueued: { (vec-len queue ≡ 0) × (most-instructions ≤ vec-cap queue) },
+    ghost unfilled: { (vec-len rows ≡ 0) × (most-members ≤ vec-cap rows) },
 }

@@ -21,6 +21,6 @@ pub struct Opening {
     ghost fewer: { vec-len pairs ≤ most-instructions },
     ghost listed: { Listed (vec-items pairs) (vec-len members) (sheet-of sheet .currencies) },
     ghost counted: { Counted (vec-items pairs) },
-    ghost no_queue: { (vec-len queue ≡ 0) × (most-instructions ≤ vec-cap queue) },
-    ghost no_rows: { (vec-len rows ≡ 0) × (most-members ≤ vec-cap rows) },
+    ghost unqueued: { (vec-len queue ≡ 0) × (most-instructions ≤ vec-cap queue) },
+    ghost unfilled: { (vec-len rows ≡ 0) × (most-members ≤ vec-cap rows) },
 }

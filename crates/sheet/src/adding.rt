@@ -83,7 +83,7 @@ impl Sheet {
             cause,
             layer: Layer::Sheet,
             member: None,
-            currency: Some(self.currencies.len() as u8),
+            currency: Some(self.len()),
             place: 0,
         }
     }

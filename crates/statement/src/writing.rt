@@ -23,6 +23,7 @@ impl Statement {
     /// The statement of a member of this name, with no currency yet. A name longer than 16 bytes is cut there.
     pub fn begin(name: &[u8]) -> Statement
         ensures text { λ r. ⌜ written r ≡ member-line (take longest-name (now (name .entry))) ⌝ }
+        ensures whole { λ r. ⌜ (length (now (name .entry)) ≤ longest-name → written r ≡ member-line (now (name .entry))) ⌝ }
         ensures entries { λ r. ⌜ r .entries ≡ 0 ⌝ }
     {
         let len = if name.len() < LONGEST_NAME {

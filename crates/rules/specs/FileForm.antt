@@ -78,9 +78,13 @@ counts-wrong f = ltb most-currencies (currencies-in f) || (ltb most-members (mem
 abbrev pub form-wrong : List ℕ → Bool
 form-wrong f = not (eqb (length f) (step-at f (steps-in f)))
 
+-- a refusal of the file speaks of no member and no currency
+abbrev pub file-refusal : ℕ → ℕ → Refusal
+file-refusal number place = record { number = number; layer = file; member = None; currency = None; place = place }
+
 -- the i-th step is of no known kind; the refusal names where it stands
 abbrev pub kind-cause : List ℕ → ℕ → Case Refusal
-kind-cause f i = record { name = record { number = 4; layer = file; member = None; currency = None; place = step-at f i }; holds = not (known-kind (byte f (step-at f i))) }
+kind-cause f i = record { name = file-refusal 4 (step-at f i); holds = not (known-kind (byte f (step-at f i))) }
 
 -- what can be wrong with the form of a file, in the order in which it is checked
 abbrev pub form-causes : List ℕ → List (Case Refusal)

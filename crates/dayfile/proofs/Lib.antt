@@ -1,2 +1,3 @@
 mod Listed
+mod Parts
 pub mod Formed

@@ -15,7 +15,7 @@ use refusal::Layer;
 use refusal::Refusal;
 
 // Bytes: the four counts, and the longest file.
-const COUNTS_SIZE: usize = 8;
+pub(crate) const COUNTS_SIZE: usize = 8;
 
 const MOST_BYTES: usize = 40_000;
 

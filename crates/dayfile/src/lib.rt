@@ -1,7 +1,9 @@
 //! The form of a day file, and its records, which borrow codes and names from it.
 mod bytes;
 mod dayfile;
+mod fields;
 mod form;
+mod reading;
 mod records;
 
 pub use dayfile::DayFile;

@@ -9,7 +9,7 @@ use Rattle.std.specs.declared.option.Option.the-variants.{Some, None}
 use Rattle.rules.specs.Below.{listed}
 use Rattle.rules.specs.Sheet.{Currency}
 use Rattle.rules.specs.Matching.{Instruction}
-use Rattle.rules.specs.FileForm.{byte, two-bytes, four-bytes, eight-bytes, currencies-in, members-in, instructions-in, steps-in, currency-at, member-at, instruction-at, step-at}
+use Rattle.rules.specs.FileForm.{byte, two-bytes, four-bytes, eight-bytes, currencies-in, members-in, instructions-in, steps-in, member-size, currency-at, member-at, instruction-at, step-at}
 
 -- a member: its name, its aggregate limit in marks, and its short limits in units, by currency number
 pub record MemberRecord : Type 0 where
@@ -77,14 +77,27 @@ instruction-in f i = instruction-from f (instruction-at f i)
 unfoldable pub step-in : List ℕ → ℕ → FileStep
 step-in f i = step-from f (step-at f i)
 
--- the k-th record of the file, whatever its kind
+-- how many records the file has, and where those of a kind begin among them: the currencies come first
+abbrev pub instructions-from : List ℕ → ℕ
+instructions-from f = currencies-in f + members-in f
+
+abbrev pub steps-from : List ℕ → ℕ
+steps-from f = instructions-from f + instructions-in f
+
+abbrev pub records-in : List ℕ → ℕ
+records-in f = steps-from f + steps-in f
+
+-- the k-th record of the file, whatever its kind, and where it ends
 abbrev pub record-in : List ℕ → ℕ → FileRecord
 record-in f k =
     cond (ltb k (currencies-in f)) (currency (currency-in f k))
-    (cond (ltb k (currencies-in f + members-in f)) (member (member-in f (k - currencies-in f)))
-    (cond (ltb k (currencies-in f + members-in f + instructions-in f)) (instruction (instruction-in f (k - (currencies-in f + members-in f))))
-    (step (step-in f (k - (currencies-in f + members-in f + instructions-in f))))))
+    (cond (ltb k (instructions-from f)) (member (member-in f (k - currencies-in f)))
+    (cond (ltb k (steps-from f)) (instruction (instruction-in f (k - instructions-from f)))
+    (step (step-in f (k - steps-from f)))))
 
--- how many records the file has
-abbrev pub records-in : List ℕ → ℕ
-records-in f = currencies-in f + members-in f + instructions-in f + steps-in f
+abbrev pub record-end : List ℕ → ℕ → ℕ
+record-end f k =
+    cond (ltb k (currencies-in f)) (currency-at f k + 10)
+    (cond (ltb k (instructions-from f)) (member-at f (k - currencies-in f) + member-size f)
+    (cond (ltb k (steps-from f)) (instruction-at f (k - instructions-from f) + 16)
+    (step-at f (k - steps-from f) + 8)))

@@ -8,6 +8,8 @@ use lib.ListN.{length}
 use Rattle.std.proofs.shelf.Ways.{tells}
 use Rattle.std.specs.declared.option.Option.the-variants.{None}
 use Rattle.rules.proofs.Firsts.{first-none}
+use Rattle.rules.specs.FileRecords.{member-in}
+use Rattle.dayfile.proofs.Listed.{length-listed}
 use Rattle.rules.specs.FileForm.{currencies-in, members-in, instructions-in, steps-in, member-size, currency-at, member-at, instruction-at, step-at, form-causes, form-refusal}
 
 -- it is as long as its counts give
@@ -36,3 +38,8 @@ instruction-ends f i e h = omega (arith, whole f e)
 
 pub step-ends : (f : List ℕ) (i : ℕ) → form-refusal f ≡ None → i < steps-in f → step-at f i + 8 ≤ length f
 step-ends f i e h = omega (arith, whole f e)
+
+-- a member has a short limit for each currency, in a file of any form
+pub shorts-count : (f : List ℕ) (i : ℕ) → length (member-in f i .shorts) ≡ currencies-in f
+unfolding member-in
+shorts-count f i = length-listed (currencies-in f) _

@@ -1,3 +1,3 @@
-mod Listed
+pub mod Listed
 mod Parts
 pub mod Formed

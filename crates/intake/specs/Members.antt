@@ -13,7 +13,7 @@ use Rattle.intake.specs.Ranges.{no-amount}
 abbrev pub no-member : Member
 no-member = record {
   name = record { bytes = []; len = 0; short = lit≤ tt };
-  limits = record { short = []; aggregate = record { 0 = 0 }; limited = λ c l. lit≤ tt };
+  limits = record { short = []; aggregate = record { 0 = 0 }; limited = λ c. lit≤ tt };
 }
 
 abbrev pub name-of : Name → List ℕ

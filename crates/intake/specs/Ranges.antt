@@ -11,7 +11,7 @@ no-amount = record { 0 = 0 }
 
 -- every short limit is at most 10^9 units
 abbrev pub Limited : List Amount → Type 0
-Limited short = (c : ℕ) → c < most-currencies → getD short c no-amount .0 ≤ most-units
+Limited short = (c : ℕ) → getD short c no-amount .0 ≤ most-units
 
 -- two parties, two currencies, and amounts of at most 10^9 units
 abbrev pub Matched : ℕ → ℕ → ℕ → ℕ → ℕ → ℕ → Type 0

@@ -6,4 +6,4 @@ use Rattle.intake.proofs.Additions.{short-in-range}
 use Rattle.intake.proofs.limits.Limits.of.Needs as need
 
 pub ghost-result : need.ghost-result
-ghost-result c = (λ k _. let e = c .by-currency .ensures k in let l = short-in-range (c .args .shorts .now) (c .args .aggregate .0) (c .pre .1) k in omega arith, tt)
+ghost-result c = (λ k. let e = c .by-currency .ensures k in let l = short-in-range (c .args .shorts .now) (c .args .aggregate .0) (c .pre .1) k in omega arith, tt)

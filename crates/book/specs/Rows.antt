@@ -3,7 +3,7 @@ use mathlib.Core.Path.{_≡_}
 use mathlib.Core.List.{[]}
 use Prim.Native.Nat.{ℕ, _<_}
 use lib.Dec.{lit≤}
-use lib.IntN.{pos}
+use lib.IntN.{pos, _+ℤ_}
 use lib.ListN.{getD}
 use Rattle.std.specs.Of.Vec.{vec-items, vec-len}
 use Rattle.book.specs.declared.position.Position.{Position}
@@ -33,3 +33,10 @@ pub record Put (old new : Book) (m c : ℕ) (p : Position) : Type 0 where
 -- m is a row of the book, and c a currency number
 abbrev pub Holds : Book → ℕ → ℕ → Type 0
 Holds b m c = (m < vec-len (b .rows)) × (c < 24)
+
+-- what is reserved is back in the account, and nothing else changes
+pub record Lapsed (p q : Position) : Type 0 where
+  pub account-is : q .account .0 ≡ p .account .0 +ℤ pos (p .reserved .0)
+  pub reserved-is : q .reserved .0 ≡ 0
+  pub in-is : q .«paid_in» .0 ≡ p .«paid_in» .0
+  pub out-is : q .«paid_out» .0 ≡ p .«paid_out» .0

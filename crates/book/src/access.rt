@@ -53,7 +53,7 @@ impl Row {
 
 impl Book {
     // Lends one row to be changed: no other row changes.
-    fn row_mut(&mut self, m: usize) -> &mut Row
+    pub(crate) fn row_mut(&mut self, m: usize) -> &mut Row
         requires { ⌜ m < vec-len (now self .rows) ⌝ }
         ensures follows { λ r. sem 𝓤 H A (follows book row (name (self .entry)) (name r) (λ w. record { rows = with-item (now (self .entry) .rows) m w })) }
         ensures value { λ r. ⌜ now r ≡ row-at (now (self .entry)) m ⌝ }

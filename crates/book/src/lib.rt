@@ -1,5 +1,6 @@
 //! The accounts of a day: a row of positions for each member.
 mod access;
+mod lapse;
 mod position;
 mod row;
 mod table;

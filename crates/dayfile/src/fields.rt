@@ -56,7 +56,8 @@ impl MemberRecord<'_> {
     }
 }
 
-/// The step of a record of eight bytes. The fields that its kind does not read are passed over.
+/// The step of a record of eight bytes. The fields that its kind does not read are passed over; a kind past the third
+/// is a pay-out, since the form of the file leaves only the fourth.
 pub(crate) fn step_of(record: &[u8]) -> Option<StepRecord>
     ensures { λ r. ⌜ BySome r (length (now («record» .entry)) ≡ 8 → ⊥) (λ s. (length (now («record» .entry)) ≡ 8) × (step-of s ≡ step-from (now («record» .entry)) 0)) ⌝ }
 {

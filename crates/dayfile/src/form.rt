@@ -1,8 +1,6 @@
 //! The form of a day file: its counts, where its records stand, and what is wrong with it.
 ghost use mathlib.Core.Path.{_≡_};
-ghost use Prim.Native.Nat.{ℕ, _+_, _*_, _<_, _≤_};
-ghost use lib.ListN.{length};
-ghost use mathlib.Core.Bool.{true};
+ghost use Prim.Native.Nat.{_<_};
 ghost use Rattle.refusal.specs.Meaning.{number-of, refusal-of};
 ghost use Rattle.rules.specs.FileForm.{currencies-in, members-in, instructions-in, steps-in, member-at, instruction-at, step-at, counts-wrong, kind-cause, file-refusal};
 ghost use Rattle.dayfile.specs.Meaning.{file-of};
@@ -14,12 +12,28 @@ use refusal::Cause;
 use refusal::Layer;
 use refusal::Refusal;
 
-// Bytes: the four counts, and the longest file.
+// Bytes of the four counts, which come first.
 pub(crate) const COUNTS_SIZE: usize = 8;
 
+// Bytes of a currency's record.
+pub(crate) const CURRENCY_SIZE: usize = 10;
+
+// Bytes of a member's record before its short limits, of which it has one for each currency.
+pub(crate) const MEMBER_SIZE: usize = 24;
+
+// Bytes of a short limit.
+pub(crate) const LIMIT_SIZE: usize = 4;
+
+// Bytes of an instruction's record.
+pub(crate) const INSTRUCTION_SIZE: usize = 16;
+
+// Bytes of a step's record.
+pub(crate) const STEP_SIZE: usize = 8;
+
+// Bytes of the longest file.
 const MOST_BYTES: usize = 40_000;
 
-// The most of each kind of record.
+// The most records of each kind.
 const MOST_CURRENCIES: usize = 24;
 
 const MOST_MEMBERS: usize = 32;
@@ -28,18 +42,7 @@ const MOST_INSTRUCTIONS: usize = 1_024;
 
 const MOST_STEPS: usize = 2_000;
 
-// Bytes of a record. A member's has one short limit for each currency besides.
-pub(crate) const CURRENCY_SIZE: usize = 10;
-
-pub(crate) const MEMBER_SIZE: usize = 24;
-
-pub(crate) const LIMIT_SIZE: usize = 4;
-
-pub(crate) const INSTRUCTION_SIZE: usize = 16;
-
-pub(crate) const STEP_SIZE: usize = 8;
-
-// The kinds of step.
+// The kinds of step are numbered from this one to the last.
 const FIRST_KIND: u8 = 1;
 
 const LAST_KIND: u8 = 4;
@@ -97,6 +100,7 @@ impl<'a> DayFile<'a> {
         usize::from(two_bytes_at(self.bytes, 6))
     }
 
+    // Whether a count is above its most.
     fn has_too_many(self) -> bool
         ensures { λ r. ⌜ r ≡ counts-wrong (file-of (self .entry)) ⌝ }
     {

@@ -19,11 +19,11 @@ use crate::records::MemberRecord;
 use crate::records::Record;
 use crate::records::StepRecord;
 
-// Bytes of a code.
+// Bytes of a currency's code.
 const CODE_SIZE: usize = 3;
 
 impl<'a> DayFile<'a> {
-    /// The i-th currency.
+    /// The i-th currency, or none where the file has no more than i.
     pub fn currency(self, i: usize) -> Option<CurrencyRecord<'a>>
         ensures { λ r. ⌜ CurrencyAt (file-of (self .entry)) i r ⌝ }
     {
@@ -42,7 +42,7 @@ impl<'a> DayFile<'a> {
         })
     }
 
-    /// The i-th member.
+    /// The i-th member, likewise.
     pub fn member(self, i: usize) -> Option<MemberRecord<'a>>
         ensures { λ r. ⌜ MemberAt (file-of (self .entry)) i r ⌝ }
     {
@@ -57,7 +57,7 @@ impl<'a> DayFile<'a> {
         Some(member_at(self.bytes, at, shorts_size))
     }
 
-    /// The i-th instruction.
+    /// The i-th instruction, likewise.
     pub fn instruction(self, i: usize) -> Option<InstructionRecord>
         ensures { λ r. ⌜ InstructionAt (file-of (self .entry)) i r ⌝ }
     {
@@ -79,7 +79,7 @@ impl<'a> DayFile<'a> {
         })
     }
 
-    /// The i-th step.
+    /// The i-th step, likewise.
     pub fn step(self, i: usize) -> Option<StepRecord>
         ensures { λ r. ⌜ StepAt (file-of (self .entry)) i r ⌝ }
     {
@@ -93,7 +93,7 @@ impl<'a> DayFile<'a> {
         step_of(&self.bytes[at..at + STEP_SIZE])
     }
 
-    /// The k-th record, whatever its kind.
+    /// The k-th record, whatever its kind: currencies, members, instructions and steps follow in that order.
     pub fn record(self, k: usize) -> Option<Record<'a>>
         ensures { λ r. ⌜ RecordAt (file-of (self .entry)) k r ⌝ }
     {

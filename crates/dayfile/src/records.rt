@@ -31,7 +31,7 @@ pub struct InstructionRecord {
     pub reference: u32,
 }
 
-/// A step of the day.
+/// A step of the day, with what its kind reads.
 #[derive(Clone, Copy)]
 pub enum StepRecord {
     PayIn {

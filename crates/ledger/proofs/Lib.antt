@@ -1,0 +1,2 @@
+mod Filter
+mod Passing

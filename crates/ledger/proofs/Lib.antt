@@ -1,2 +1,4 @@
 mod Filter
 mod Passing
+mod Left
+mod Numbers

@@ -1,3 +1,4 @@
 pub mod Meaning
 pub mod Offers
 pub mod Turns
+pub mod Questions

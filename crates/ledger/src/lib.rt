@@ -3,8 +3,11 @@ mod counts;
 mod ledger;
 mod offers;
 mod positions;
+mod questions;
 mod refused;
 mod settle;
+mod sums;
 
 pub use counts::Counts;
 pub use ledger::Ledger;
+pub use sums::own_pairs;

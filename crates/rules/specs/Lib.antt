@@ -14,7 +14,9 @@ pub mod Tests
 pub mod Settle
 pub mod Settling
 pub mod Calls
+pub mod Questions
 pub mod Nostro
 pub mod Wording
+pub mod Statements
 pub mod FileForm
 pub mod FileRecords

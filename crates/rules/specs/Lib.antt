@@ -10,6 +10,7 @@ pub mod Pairs
 pub mod Matching
 pub mod Schedule
 pub mod Setting
+pub mod Orders
 pub mod Tests
 pub mod Settle
 pub mod Settling

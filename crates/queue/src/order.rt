@@ -1,6 +1,7 @@
 ghost use mathlib.Core.Path.{_≡_};
 ghost use mathlib.Core.Bool.{Bool, true, false, not};
 ghost use Rattle.rules.specs.Pairs as rules;
+ghost use Rattle.rules.specs.Setting.{Orders};
 ghost use Rattle.intake.specs.Parties.{pair-of};
 use intake::Pair;
 
@@ -22,3 +23,8 @@ pub trait QueueOrder {
     fn goes_before(&self, a: &Pair, b: &Pair) -> bool
         ensures { λ r. ⌜ r ≡ before (now (self .entry)) (pair-of (now (a .entry))) (pair-of (now (b .entry))) ⌝ };
 }
+
+/// Every queue order keeps the laws that the rules ask of one.
+pub fn order_is_lawful<O: QueueOrder>(order: &O)
+    ensures { λ _. ⌜ Orders (O·QueueOrder .before (now (order .entry))) ⌝ }
+{}

@@ -4,3 +4,4 @@ pub mod Sum
 pub mod Tables
 pub mod Pass
 pub mod Queues
+pub mod Responses

@@ -1,0 +1,6 @@
+mod Steps
+mod PayIns
+mod Clocks
+mod Reserving
+mod Paying
+mod SettleCall

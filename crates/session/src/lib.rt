@@ -1,0 +1,9 @@
+//! A session: one settlement day from its opening to its close.
+mod calls;
+mod questions;
+mod reservation;
+mod session;
+mod tokens;
+
+pub use reservation::Reservation;
+pub use session::Session;

@@ -1,6 +1,6 @@
 -- A book's positions, by member and currency.
 use mathlib.Core.Path.{_≡_}
-use mathlib.Core.List.{[]}
+use mathlib.Core.List.{List, []}
 use Prim.Native.Nat.{ℕ, _<_}
 use lib.Dec.{lit≤}
 use lib.IntN.{pos, _+ℤ_}
@@ -40,3 +40,7 @@ pub record Lapsed (p q : Position) : Type 0 where
   pub reserved-is : q .reserved .0 ≡ 0
   pub in-is : q .«paid_in» .0 ≡ p .«paid_in» .0
   pub out-is : q .«paid_out» .0 ≡ p .«paid_out» .0
+
+-- every row is that of a member that has done nothing
+abbrev pub Untouched : List Row → Type 0
+Untouched rows = (m c : ℕ) → in-row (getD rows m (record { positions = [] })) c ≡ nothing

@@ -4,3 +4,4 @@ mod Clocks
 mod Reserving
 mod Paying
 mod SettleCall
+mod Opened

@@ -1,5 +1,6 @@
 //! A session: one settlement day from its opening to its close.
 mod calls;
+mod opening;
 mod questions;
 mod reservation;
 mod session;

@@ -1,10 +1,13 @@
 //! A session: one settlement day from its opening to its close.
 mod calls;
+mod closed;
+mod closing;
 mod opening;
 mod questions;
 mod reservation;
 mod session;
 mod tokens;
 
+pub use closed::ClosedDay;
 pub use reservation::Reservation;
 pub use session::Session;

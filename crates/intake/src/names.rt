@@ -57,7 +57,8 @@ impl Name {
 
     /// The bytes of the name.
     pub fn as_bytes(&self) -> &[u8]
-        ensures { λ r. ⌜ now (r) ≡ name-of (now (self .entry)) ⌝ }
+        ensures value { λ r. ⌜ now r ≡ name-of (now (self .entry)) ⌝ }
+        ensures short { λ r. ⌜ length (now r) ≤ 16 ⌝ }
     {
         &self.bytes[0..self.len]
     }

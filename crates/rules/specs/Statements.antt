@@ -2,7 +2,11 @@
 use mathlib.Core.Bool.{Bool, cond, _||_}
 use mathlib.Core.List.{List, [], _∷_}
 use Prim.Native.Nat.{ℕ, _+_, _-_}
-use lib.Dec.{eqb}
+use lib.Dec.{eqb, leb, ltb}
+use lib.ListN.{length}
+use Rattle.std.specs.declared.option.Option.the-variants.{Some, None}
+use Rattle.rules.specs.First.{Case}
+use Rattle.rules.specs.Refusals.{Refusal, cause, session}
 use Rattle.rules.specs.Pairs.{Pair}
 use Rattle.rules.specs.Setting.{Setting}
 use Rattle.rules.specs.Calls.{Books}
@@ -29,3 +33,10 @@ entry-of s b m c = record { code = s .sheet .currency c .code; account = b .acco
 -- a pair that does not wait any more has settled
 abbrev pub statement-of : Setting → Books → ℕ → List ℕ
 statement-of s b m = statement (s .roster .member m .name) (s .sheet .currencies) (entry-of s b m) (own-pairs m (s .pairs) - own-pairs m (b .waiting)) (own-pairs m (b .waiting))
+
+-- why a statement is refused into a buffer of so many bytes
+abbrev pub statement-causes : Setting → Books → ℕ → ℕ → List (Case Refusal)
+statement-causes s b m bytes =
+    cause 9 session (Some m) None (leb (s .roster .members) m)
+    ∷ cause 23 session (Some m) None (ltb bytes (length (statement-of s b m)))
+    ∷ []

@@ -5,3 +5,4 @@ mod Reserving
 mod Paying
 mod SettleCall
 mod Opened
+mod Adding

@@ -6,6 +6,7 @@ mod opening;
 mod questions;
 mod reservation;
 mod session;
+mod statements;
 mod tokens;
 
 pub use closed::ClosedDay;

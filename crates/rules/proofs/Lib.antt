@@ -5,3 +5,6 @@ pub mod Tables
 pub mod Pass
 pub mod Queues
 pub mod Responses
+pub mod Names
+pub mod MatchingSteps
+pub mod Matches

@@ -8,6 +8,7 @@ pub mod Worth
 pub mod Roster
 pub mod Pairs
 pub mod Matching
+pub mod MatchingLaws
 pub mod Schedule
 pub mod Setting
 pub mod Orders

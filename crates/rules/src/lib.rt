@@ -2,6 +2,7 @@
 //!
 //! The definitions stand in `specs/`, one subject a file, and the lemmas about them in `proofs/`.
 //! Each function here carries a theorem in its contract, so that the check asks for its proof.
+ghost use Rattle.rules.specs.MatchingLaws.{Matching-pairs-mirrors as MatchingPairsMirrors};
 ghost use Rattle.rules.specs.Settling.{Settle-is-passes-until-one-settles-nothing as SettleIsPasses, Queue-is-in-order as QueueIsInOrder};
 
 /// Settle makes passes over the waiting pairs, in queue order, until one settles nothing.
@@ -12,4 +13,9 @@ pub fn settle_makes_passes()
 /// Under every queue order the queue is in order and holds each pair once.
 pub fn queue_is_in_order()
     ensures { λ _. ⌜ QueueIsInOrder ⌝ }
+{}
+
+/// After every list of instructions, the pairs are the mirrors: each instruction is in at most one, in the order of matching.
+pub fn matching_pairs_mirrors()
+    ensures { λ _. ⌜ MatchingPairsMirrors ⌝ }
 {}

@@ -1,2 +1,3 @@
 mod Additions
 mod Taking
+mod Lists

@@ -15,6 +15,7 @@ mod roster;
 mod shorts;
 mod stages;
 mod submitting;
+mod submitting_all;
 
 pub use instruction::Instruction;
 pub use intake::Intake;

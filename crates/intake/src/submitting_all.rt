@@ -16,6 +16,8 @@ impl Intake {
         ensures book { λ _. ⌜ book-of (now (self .exit)) ≡ after-all (terms-of (now (self .entry) .roster)) (book-of (now (self .entry))) (map instruction-of (now (instructions .entry))) ⌝ }
         ensures count { λ r. ⌜ vec-len (now (self .exit) .kept) ≡ vec-len (now (self .entry) .kept) + r ⌝ }
         ensures roster { λ _. ⌜ now (self .exit) .roster ≡ now (self .entry) .roster ⌝ }
+        ensures queue { λ _. ⌜ now (self .exit) .queue ≡ now (self .entry) .queue ⌝ }
+        ensures rows { λ _. ⌜ now (self .exit) .rows ≡ now (self .entry) .rows ⌝ }
         ensures matched { λ _. ⌜ (Empty (book-of (now (self .entry))) → Laws (terms-of (now (self .exit) .roster)) (book-of (now (self .exit)))) ⌝ }
         ensures lawful { λ _. ⌜ (Laws (terms-of (now (self .entry) .roster)) (book-of (now (self .entry))) → Laws (terms-of (now (self .exit) .roster)) (book-of (now (self .exit)))) ⌝ }
     {

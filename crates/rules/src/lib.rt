@@ -15,7 +15,7 @@ pub fn queue_is_in_order()
     ensures { λ _. ⌜ QueueIsInOrder ⌝ }
 {}
 
-/// After every list of instructions, the pairs are the mirrors: each instruction is in at most one, in the order of matching.
+/// After every list of instructions, two kept ones are a pair if they are mirrors, and only if; each is in at most one.
 pub fn matching_pairs_mirrors()
     ensures { λ _. ⌜ MatchingPairsMirrors ⌝ }
 {}

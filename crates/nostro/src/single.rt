@@ -1,17 +1,12 @@
 ghost use mathlib.Core.Path.{_≡_};
 ghost use Prim.Native.Nat.{ℕ};
 ghost use lib.ListN.{getD};
-ghost use Rattle.rules.specs.Refusals as rules;
-ghost use Rattle.refusal.specs.Meaning.{refusal-of, number-of};
-ghost use Rattle.std.specs.declared.option.Option.the-variants.{Some, None};
 use crate::correspondent::Nostro;
+use crate::refusing::MOST_CASH;
+use crate::refusing::refused;
 use refusal::Cause;
-use refusal::Layer;
 use refusal::Refusal;
 use units::Amount;
-
-/// Most units of one currency that a nostro takes in.
-const MOST_CASH: u64 = 1_000_000_000_000;
 
 /// One correspondent for all currencies, with the cash of each.
 #[derive(Clone, Copy)]
@@ -25,18 +20,6 @@ impl SingleBook {
         ensures { λ r. ⌜ ((c : ℕ) → getD (r .cash) c 0 ≡ 0) ⌝ }
     {
         SingleBook { cash: [0; 24] }
-    }
-}
-
-fn refused(cause: Cause, currency: u8) -> Refusal
-    ensures { λ r. ⌜ refusal-of r ≡ record { number = number-of cause; layer = rules.nostro; member = None; currency = Some currency; place = 0 } ⌝ }
-{
-    Refusal {
-        cause,
-        layer: Layer::Nostro,
-        member: None,
-        currency: Some(currency),
-        place: 0,
     }
 }
 

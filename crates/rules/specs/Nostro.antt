@@ -39,3 +39,21 @@ pub record Only-at (before : ℕ → ℕ) (c n : ℕ) (after : ℕ → ℕ) : Ty
 -- all cash is as before
 abbrev pub Unchanged : (ℕ → ℕ) → (ℕ → ℕ) → Type 0
 Unchanged before after = (q : ℕ) → after q ≡ before q
+
+-- the cash of a split: that of both its parts together
+abbrev pub together : (ℕ → ℕ) → (ℕ → ℕ) → ℕ → ℕ
+together first second c = first c + second c
+
+-- what a split takes from its first part for a payment: the smaller of the amount and that part's cash
+abbrev pub from-first : (ℕ → ℕ) → ℕ → ℕ → ℕ
+from-first first c amount = min amount (first c)
+
+-- a split receives into its first part
+pub record Split-received (first second : ℕ → ℕ) (c amount : ℕ) (first′ second′ : ℕ → ℕ) : Type 0 where
+  pub in-first : Only-at first c (first c + amount) first′
+  pub in-second : Unchanged second second′
+
+-- a split pays from its first part what that can, and the rest from its second
+pub record Split-paid (first second : ℕ → ℕ) (c amount : ℕ) (first′ second′ : ℕ → ℕ) : Type 0 where
+  pub of-first : Only-at first c (first c - from-first first c amount) first′
+  pub of-second : Only-at second c (second c - (amount - from-first first c amount)) second′

@@ -8,3 +8,4 @@ pub mod Responses
 pub mod Names
 pub mod MatchingSteps
 pub mod Matches
+pub mod Examples

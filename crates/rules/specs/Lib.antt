@@ -22,3 +22,4 @@ pub mod Wording
 pub mod Statements
 pub mod FileForm
 pub mod FileRecords
+pub mod Worked

@@ -4,6 +4,7 @@
 //! Each function here carries a theorem in its contract, so that the check asks for its proof.
 ghost use Rattle.rules.specs.MatchingLaws.{Matching-pairs-mirrors as MatchingPairsMirrors};
 ghost use Rattle.rules.specs.Settling.{Settle-is-passes-until-one-settles-nothing as SettleIsPasses, Queue-is-in-order as QueueIsInOrder};
+ghost use Rattle.rules.specs.Worked.{Worked-cases as WorkedCases};
 
 /// Settle makes passes over the waiting pairs, in queue order, until one settles nothing.
 pub fn settle_makes_passes()
@@ -18,4 +19,7 @@ pub fn queue_is_in_order()
 /// After every list of instructions, two kept ones are a pair if they are mirrors, and only if; each is in at most one.
 pub fn matching_pairs_mirrors()
     ensures { λ _. ⌜ MatchingPairsMirrors ⌝ }
+/// The worked cases come out as listed.
+pub fn worked_cases_hold()
+    ensures { λ _. ⌜ WorkedCases ⌝ }
 {}

@@ -13,7 +13,7 @@ use Rattle.rules.specs.Pairs as rules
 use Rattle.rules.specs.Pairs.{after-pair}
 use Rattle.rules.specs.Setting.{Setting}
 use Rattle.rules.specs.Tests.{failures, stops}
-use Rattle.rules.specs.Calls.{credited, debited}
+use Rattle.rules.specs.Books.{credited, debited}
 use Rattle.rules.proofs.Sum.{only-here, only-other, only-elsewhere, same-table}
 use Rattle.rules.proofs.Firsts.{first-none}
 use Rattle.accounts.specs.Moves.{Room, Cover}

@@ -9,7 +9,7 @@ ghost use Rattle.std.specs.declared.option.Option.the-variants.{None};
 ghost use Rattle.rules.specs.Pairs.{after-pair};
 ghost use Rattle.rules.specs.Sums.{total};
 ghost use Rattle.rules.specs.Tests.{stops};
-ghost use Rattle.rules.specs.Calls.{credited, debited};
+ghost use Rattle.rules.specs.Books.{credited, debited};
 ghost use Rattle.sheet.specs.Meaning.{sheet-of};
 ghost use Rattle.intake.specs.Parties.{pair-of, Within};
 ghost use Rattle.accounts.specs.Meaning.{setting-within, account, reserve-of, stopped};

@@ -6,7 +6,7 @@ use native.Mathlib.Omega.{arith}
 use lib.IntN.{ℤ, pos, _+ℤ_, _-ℤ_}
 use borrow.Author.Differences.{ints}
 use Rattle.std.proofs.shelf.Tests.{cases-eq}
-use Rattle.rules.specs.Calls.{raised, lowered, credited, debited}
+use Rattle.rules.specs.Books.{raised, lowered, credited, debited}
 use Rattle.rules.proofs.Sum.{only-here, only-elsewhere, same-table}
 use Rattle.book.specs.declared.table.Book.{Book}
 use Rattle.book.specs.declared.row.Row.{Row}

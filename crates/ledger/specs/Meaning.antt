@@ -5,7 +5,7 @@ use Prim.Native.Nat.{ℕ}
 use Rattle.std.specs.Of.Vec.{vec-items}
 use Rattle.rules.specs.Pairs as rules
 use Rattle.rules.specs.Setting.{Setting}
-use Rattle.rules.specs.Calls.{Books}
+use Rattle.rules.specs.Books.{Books}
 use Rattle.intake.specs.Parties.{pair-of}
 use Rattle.accounts.specs.Meaning.{setting-at, setting-within, account, reserve-of, ins-of, outs-of}
 use Rattle.ledger.specs.declared.ledger.Ledger.{Ledger}

@@ -8,7 +8,8 @@ use Rattle.std.specs.declared.result.Result.the-variants.{Ok, Err}
 use Rattle.rules.specs.Bounds.{most-units}
 use Rattle.rules.specs.First.{first-of}
 use Rattle.rules.specs.Setting.{Setting}
-use Rattle.rules.specs.Calls.{Books, pay-in-causes, reserve-causes, held-causes}
+use Rattle.rules.specs.Books.{Books}
+use Rattle.rules.specs.Causes.{pay-in-causes, reserve-causes, held-causes}
 use Rattle.refusal.specs.declared.refused.Refusal.{Refusal}
 use Rattle.refusal.specs.Meaning.{refusal-of}
 use Rattle.book.specs.declared.position.Position.{Position}

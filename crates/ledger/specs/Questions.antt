@@ -10,7 +10,8 @@ use Rattle.rules.specs.First.{first-of}
 use Rattle.rules.specs.Pairs as rules
 use Rattle.rules.specs.Setting.{Setting}
 use Rattle.rules.specs.Tests.{stops}
-use Rattle.rules.specs.Calls.{Books, place-causes}
+use Rattle.rules.specs.Books.{Books}
+use Rattle.rules.specs.Causes.{place-causes}
 use Rattle.rules.specs.Questions.{amount-due, numbered, no-such-pair}
 use Rattle.refusal.specs.declared.refused.Refusal.{Refusal}
 use Rattle.refusal.specs.Meaning.{refusal-of}

@@ -10,7 +10,7 @@ use Rattle.std.proofs.shelf.Tests.{cases-eq, eq-eqb, ne-eqb, ltb-true, ltb-fals
 use Rattle.rules.specs.Bounds.{most-sum}
 use Rattle.rules.specs.First.{first-of}
 use Rattle.rules.specs.Refusals.{Refusal}
-use Rattle.rules.specs.Calls.{received, spent}
+use Rattle.rules.specs.Books.{received, spent}
 use Rattle.rules.specs.Nostro.{receipt-causes, payment-causes, last-number, Only-at}
 use Rattle.rules.proofs.Firsts.{first-none, none-first}
 

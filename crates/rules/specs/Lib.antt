@@ -15,6 +15,8 @@ pub mod Orders
 pub mod Tests
 pub mod Settle
 pub mod Settling
+pub mod Books
+pub mod Causes
 pub mod Calls
 pub mod Questions
 pub mod Nostro

@@ -9,7 +9,7 @@ use Rattle.rules.specs.Refusals.{Refusal, session}
 use Rattle.rules.specs.Pairs.{Pair}
 use Rattle.rules.specs.Schedule.{required, due}
 use Rattle.rules.specs.Setting.{Setting}
-use Rattle.rules.specs.Calls.{Books}
+use Rattle.rules.specs.Books.{Books}
 
 -- the amount due of a member in a currency at the present hour
 abbrev pub amount-due : Setting → Books → ℕ → ℕ → ℕ

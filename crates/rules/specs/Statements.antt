@@ -9,7 +9,7 @@ use Rattle.rules.specs.First.{Case}
 use Rattle.rules.specs.Refusals.{Refusal, cause, session}
 use Rattle.rules.specs.Pairs.{Pair}
 use Rattle.rules.specs.Setting.{Setting}
-use Rattle.rules.specs.Calls.{Books}
+use Rattle.rules.specs.Books.{Books}
 use Rattle.rules.specs.Questions.{amount-due}
 use Rattle.rules.specs.Wording.{Entry, statement}
 

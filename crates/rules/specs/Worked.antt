@@ -17,7 +17,8 @@ use Rattle.rules.specs.Orders.{by-number}
 use Rattle.rules.specs.Schedule.{due}
 use Rattle.rules.specs.Worth.{adjusted}
 use Rattle.rules.specs.Tests.{Stop, fails-2, fails-4, stops}
-use Rattle.rules.specs.Calls.{Books, Call, pay-in, settle, Answer, done, counts, refused, opened, respond}
+use Rattle.rules.specs.Books.{Books, opened}
+use Rattle.rules.specs.Calls.{Call, pay-in, settle, Answer, done, counts, refused, respond}
 
 -- currencies 0 and 1
 abbrev pub usd : Currency

@@ -19,6 +19,8 @@ pub fn queue_is_in_order()
 /// After every list of instructions, two kept ones are a pair if they are mirrors, and only if; each is in at most one.
 pub fn matching_pairs_mirrors()
     ensures { λ _. ⌜ MatchingPairsMirrors ⌝ }
+{}
+
 /// The worked cases come out as listed.
 pub fn worked_cases_hold()
     ensures { λ _. ⌜ WorkedCases ⌝ }

@@ -8,7 +8,8 @@ use lib.Dec.{ltb}
 use Rattle.std.proofs.shelf.Tests.{or-left, or-right, or-from, lt-ltb, le-ltb}
 use Rattle.rules.specs.Refusals.{session}
 use Rattle.rules.specs.Setting.{Setting}
-use Rattle.rules.specs.Calls.{Books, clock, causes, accepted, done, refused}
+use Rattle.rules.specs.Books.{Books}
+use Rattle.rules.specs.Calls.{clock, causes, accepted, done, refused}
 use Rattle.rules.proofs.Firsts.{at-first, at-next}
 use Rattle.session.specs.Meaning.{Does}
 use Rattle.session.proofs.Steps.{turned-away, let-through}

@@ -9,7 +9,9 @@ use Rattle.std.proofs.shelf.Tests.{lt-ltb, le-ltb}
 use Rattle.rules.specs.First.{Case, first-of}
 use Rattle.rules.specs.Refusals.{Refusal, nostro}
 use Rattle.rules.specs.Setting.{Setting}
-use Rattle.rules.specs.Calls.{Books, Reservation, pay, at, causes, held-causes, accepted, done, refused, raised, lowered, spent}
+use Rattle.rules.specs.Books.{Books, Reservation, raised, lowered, spent}
+use Rattle.rules.specs.Causes.{at, held-causes}
+use Rattle.rules.specs.Calls.{pay, causes, accepted, done, refused}
 use Rattle.rules.proofs.Firsts.{at-first, at-next}
 use Rattle.rules.proofs.Responses.{none-then, some-then, same-books}
 use Rattle.session.specs.Meaning.{Does}

@@ -11,7 +11,9 @@ use Rattle.rules.specs.First.{first-of}
 use Rattle.rules.specs.Refusals.{Refusal, session}
 use Rattle.rules.specs.Setting.{Setting}
 use Rattle.rules.specs.Nostro.{cash-shown, last-number}
-use Rattle.rules.specs.Calls.{Books, reserve, at, causes, reserve-causes, all-reserved, accepted, reserved, refused, debited, raised}
+use Rattle.rules.specs.Books.{Books, debited, raised}
+use Rattle.rules.specs.Causes.{at, reserve-causes, all-reserved}
+use Rattle.rules.specs.Calls.{reserve, causes, accepted, reserved, refused}
 use Rattle.rules.proofs.Firsts.{at-first, at-next}
 use Rattle.rules.proofs.Responses.{none-then, some-then, same-books}
 use Rattle.session.specs.Meaning.{Does}

@@ -12,7 +12,8 @@ use Rattle.rules.specs.Pairs.{after-pair}
 use Rattle.rules.specs.Setting.{Setting}
 use Rattle.rules.specs.Tests.{Stop, stops}
 use Rattle.rules.specs.Settle.{Passed, pass, passed-by, Settled, passes, passes-by, settle-all}
-use Rattle.rules.specs.Calls.{Books, settle, causes, accepted, counts}
+use Rattle.rules.specs.Books.{Books}
+use Rattle.rules.specs.Calls.{settle, causes, accepted, counts}
 use Rattle.rules.proofs.Responses.{responds}
 use Rattle.ledger.specs.declared.counts.Counts.{Counts}
 use Rattle.accounts.specs.declared.accounts.Accounts.{Accounts}

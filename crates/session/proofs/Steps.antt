@@ -4,7 +4,8 @@ use Rattle.std.specs.declared.option.Option.the-variants.{Some, None}
 use Rattle.rules.specs.First.{first-of}
 use Rattle.rules.specs.Refusals.{Refusal}
 use Rattle.rules.specs.Setting.{Setting}
-use Rattle.rules.specs.Calls.{Books, Call, causes, accepted, refused}
+use Rattle.rules.specs.Books.{Books}
+use Rattle.rules.specs.Calls.{Call, causes, accepted, refused}
 use Rattle.rules.proofs.Responses.{responds}
 use Rattle.session.specs.Meaning.{Does}
 

@@ -3,7 +3,7 @@ use mathlib.Core.Bool.{Bool}
 use Prim.Native.Nat.{ℕ}
 use Rattle.rules.specs.Pairs as rules
 use Rattle.rules.specs.Setting.{Setting}
-use Rattle.rules.specs.Calls.{Books}
+use Rattle.rules.specs.Books.{Books}
 use Rattle.ledger.specs.Meaning.{setting-by, books-with}
 use Rattle.session.specs.declared.closed.ClosedDay.{ClosedDay}
 

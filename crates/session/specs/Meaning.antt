@@ -6,8 +6,10 @@ use Rattle.std.specs.declared.result.Result.{Result}
 use Rattle.std.specs.declared.result.Result.the-variants.{Ok, Err}
 use Rattle.rules.specs.Pairs as rules
 use Rattle.rules.specs.Setting.{Setting}
+use Rattle.rules.specs.Books as books
 use Rattle.rules.specs.Calls as calls
-use Rattle.rules.specs.Calls.{Books, Call, Answer, respond}
+use Rattle.rules.specs.Books.{Books}
+use Rattle.rules.specs.Calls.{Call, Answer, respond}
 use Rattle.refusal.specs.declared.refused.Refusal.{Refusal}
 use Rattle.refusal.specs.Meaning.{refusal-of}
 use Rattle.ledger.specs.Meaning.{setting-by, books-with}
@@ -25,7 +27,7 @@ module _ {N O : Type 0} (cash : N → ℕ → ℕ) (before : O → rules.Pair �
   abbrev pub books-of : Session N O → Books
   books-of x = books-with (cash (x .nostro)) (x .ledger)
 
-abbrev pub token : Reservation → calls.Reservation
+abbrev pub token : Reservation → books.Reservation
 token r = record { member = r .member; currency = r .currency; amount = r .amount .0 }
 
 -- the answers of the calls

@@ -8,7 +8,7 @@ use Rattle.std.specs.declared.result.Result.{Result}
 use Rattle.std.specs.declared.result.Result.the-variants.{Ok, Err}
 use Rattle.rules.specs.First.{first-of}
 use Rattle.rules.specs.Setting.{Setting}
-use Rattle.rules.specs.Calls.{Books}
+use Rattle.rules.specs.Books.{Books}
 use Rattle.rules.specs.Statements.{statement-of, statement-causes}
 use Rattle.refusal.specs.declared.refused.Refusal.{Refusal}
 use Rattle.refusal.specs.Meaning.{refusal-of}

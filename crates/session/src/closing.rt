@@ -1,6 +1,6 @@
 ghost use mathlib.Core.Path.{_≡_};
 ghost use Prim.Native.Nat.{ℕ};
-ghost use Rattle.rules.specs.Calls.{closed};
+ghost use Rattle.rules.specs.Books.{closed};
 ghost use Rattle.session.specs.Meaning.{setting-of, books-of};
 ghost use Rattle.session.specs.Closing.{setting-after, books-after};
 use crate::closed::ClosedDay;

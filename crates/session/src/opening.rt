@@ -1,7 +1,7 @@
 ghost use mathlib.Core.Path.{_≡_};
 ghost use Prim.Native.Nat.{ℕ, _≤_};
 ghost use Rattle.std.specs.Of.Vec.{vec-len, vec-cap};
-ghost use Rattle.rules.specs.Calls.{opened};
+ghost use Rattle.rules.specs.Books.{opened};
 ghost use Rattle.book.specs.Rows.{position, nothing};
 ghost use Rattle.session.specs.Meaning.{setting-of, books-of};
 ghost use Rattle.session.specs.Opening.{day-of};

@@ -5,7 +5,7 @@ use native.Mathlib.Omega.{arith}
 use Rattle.std.specs.declared.option.Option.the-variants.{None}
 use Rattle.std.proofs.shelf.Tests.{lt-leb}
 use Rattle.rules.specs.First.{first-of}
-use Rattle.rules.specs.Calls.{place-causes}
+use Rattle.rules.specs.Causes.{place-causes}
 use Rattle.rules.proofs.Firsts.{none-first}
 use Rattle.ledger.specs.Meaning.{setting-by}
 use Rattle.session.proofs.statements.due.Needs as need

@@ -8,7 +8,7 @@ use Rattle.std.specs.Of.Vec.{vec-items, vec-len}
 use Rattle.std.specs.declared.vec.Vec.{Vec}
 use Rattle.rules.specs.Pairs.{after-pair}
 use Rattle.rules.specs.Tests.{stops}
-use Rattle.rules.specs.Calls.{credited, debited}
+use Rattle.rules.specs.Books.{credited, debited}
 use Rattle.accounts.specs.declared.accounts.Accounts.{Accounts}
 use Rattle.intake.specs.declared.pair.Pair.{Pair}
 use Rattle.intake.specs.Parties.{Within, pair-of}

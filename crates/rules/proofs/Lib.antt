@@ -9,3 +9,4 @@ pub mod Names
 pub mod MatchingSteps
 pub mod Matches
 pub mod Examples
+pub mod OnlyQueue

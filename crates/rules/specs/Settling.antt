@@ -42,3 +42,7 @@ Same-pairs ps qs = (kind : Pair → Bool) → counted kind ps ≡ counted kind q
 -- under every order, the queue of differently numbered pairs is in order and holds each pair once
 abbrev pub Queue-is-in-order : Type 0
 Queue-is-in-order = (before : Pair → Pair → Bool) → Orders before → (ps : List Pair) → Numbered ps → InOrder before (queued before ps) × Same-pairs ps (queued before ps)
+
+-- under every order, two lists of the same pairs that are both in order are one list, so the queue is the only one
+abbrev pub Queue-is-the-only-one : Type 0
+Queue-is-the-only-one = (before : Pair → Pair → Bool) → Orders before → (ps qs : List Pair) → InOrder before ps → InOrder before qs → Same-pairs ps qs → ps ≡ qs

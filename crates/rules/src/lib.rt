@@ -16,7 +16,7 @@ pub fn queue_is_in_order()
     ensures { λ _. ⌜ QueueIsInOrder ⌝ }
 {}
 
-/// Under every queue order one list of the same pairs is in order: the queue.
+/// Under every queue order two lists of the same pairs that are both in order are one list: the queue is the only one.
 pub fn queue_is_the_only_one()
     ensures { λ _. ⌜ QueueIsTheOnlyOne ⌝ }
 {}

@@ -27,12 +27,12 @@ edited() {
             old = ENVIRON["OLD"]; at = index(text, old); rest = substr(text, at + length(old))
             if (old == "" || !at || index(rest, old)) exit 1
             printf "%s%s%s", substr(text, 1, at - 1), ENVIRON["NEW"], rest
-        }' tests/refused/client/src/lib.rt
+        }' tests/refused/client.txt
 }
 
 mkdir -p "$work/client/src" "$work/empty"
 echo 'fn main() {}' >"$work/empty/main.rt"
-cp tests/refused/client/src/lib.rt "$work/client/src/lib.rt"
+cp tests/refused/client.txt "$work/client/src/lib.rt"
 compiles || { cat "$work/log" >&2; fail "refused: the client does not compile"; }
 for edit in tests/refused/*.edit; do
     code=$(sed -n 's/^error: //p' "$edit")

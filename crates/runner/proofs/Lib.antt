@@ -1,1 +1,3 @@
-mod Form
+mod Stages
+mod Additions
+mod Endings

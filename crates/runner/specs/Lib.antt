@@ -1,1 +1,3 @@
+pub mod FileDay
+pub mod Printed
 pub mod Ending

@@ -15,7 +15,8 @@ use Rattle.rules.specs.Matching.{Instruction, Terms, Book, instruction-causes, 
 use Rattle.rules.specs.Orders.{by-number}
 use Rattle.rules.specs.Setting.{Setting}
 use Rattle.rules.specs.Calls as calls
-use Rattle.rules.specs.Calls.{Books, Answer, Step, respond, opened}
+use Rattle.rules.specs.Books.{Books, opened}
+use Rattle.rules.specs.Calls.{Answer, Step, respond}
 use Rattle.rules.specs.FileForm.{currencies-in, members-in, instructions-in, steps-in, form-refusal}
 use Rattle.rules.specs.FileRecords.{MemberRecord, FileStep, pay-in, clock, settle, pay-out, currency-in, member-in, instruction-in, step-in}
 

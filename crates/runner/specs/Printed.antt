@@ -7,7 +7,8 @@ use Rattle.rules.specs.First.{first-of}
 use Rattle.rules.specs.Refusals.{Refusal}
 use Rattle.rules.specs.Matching.{instruction-causes}
 use Rattle.rules.specs.Calls as calls
-use Rattle.rules.specs.Calls.{Answer, closed}
+use Rattle.rules.specs.Books.{closed}
+use Rattle.rules.specs.Calls.{Answer}
 use Rattle.rules.specs.Statements.{statement-of}
 use Rattle.rules.specs.Wording.{refusal-line}
 use Rattle.rules.specs.FileForm.{members-in, instructions-in, steps-in}

@@ -25,3 +25,5 @@ pub mod Statements
 pub mod FileForm
 pub mod FileRecords
 pub mod Worked
+pub mod FileDay
+pub mod Printed

@@ -8,7 +8,7 @@ use Rattle.rules.specs.First.{first-of}
 use Rattle.rules.specs.Sheet.{Sheet, adding-causes, with-currency}
 use Rattle.rules.specs.Roster.{Roster}
 use Rattle.rules.specs.FileRecords.{currency-in, member-in}
-use Rattle.runner.specs.FileDay.{sheet-after, sheet-refusal, sheet-in, with-record, member-refusal, roster-after, roster-refusal, roster-in}
+use Rattle.rules.specs.FileDay.{sheet-after, sheet-refusal, sheet-in, with-record, member-refusal, roster-after, roster-refusal, roster-in}
 use Rattle.runner.proofs.Stages.{Stage}
 
 pub sheet-begun : (f : List ℕ) → (record { currencies = 0; currency = λ _. record { code = []; rate = 0; haircut = 0; instalments = 0 } } ≡ sheet-after f 0) × (sheet-refusal f 0 ≡ None)

@@ -7,7 +7,7 @@ use Rattle.std.specs.declared.result.Result.the-variants.{Ok, Err}
 use Rattle.rules.specs.Refusals.{Refusal}
 use Rattle.rules.specs.FileForm.{currencies-in, members-in, form-refusal}
 use Rattle.refusal.specs.Meaning.{refusal-of}
-use Rattle.runner.specs.FileDay.{sheet-refusal, roster-refusal, day-refusal}
+use Rattle.rules.specs.FileDay.{sheet-refusal, roster-refusal, day-refusal}
 use Rattle.runner.specs.Ending.{SheetRead, RosterRead, Ends}
 use Rattle.runner.specs.declared.halt.Halt.{Halt}
 use Rattle.runner.specs.declared.halt.Halt.the-variants.{Refused, NoMemory}

@@ -1,3 +1,6 @@
 mod Stages
 mod Additions
 mod Endings
+mod Lines
+mod Taken
+mod Opened

@@ -8,7 +8,7 @@ use Rattle.std.specs.declared.option.Option.{Option}
 use Rattle.std.specs.declared.option.Option.the-variants.{Some, None}
 use Rattle.std.proofs.shelf.Tests.{cases-lt}
 use Rattle.rules.specs.Refusals.{Refusal}
-use Rattle.runner.specs.FileDay.{earlier}
+use Rattle.rules.specs.FileDay.{earlier}
 
 pub record Stage {S : Type 0} (after : ℕ → S) (refused : ℕ → Option Refusal) (why : S → ℕ → Option Refusal) (done : S → ℕ → S) : Type 0 where
   pub more : (k : ℕ) → after (k + 1) ≡ done (after k) k

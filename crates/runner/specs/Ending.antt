@@ -15,8 +15,8 @@ use Rattle.rules.specs.Roster as rosters
 use Rattle.rules.specs.FileRecords.{MemberRecord}
 use Rattle.refusal.specs.declared.refused.Refusal.{Refusal}
 use Rattle.refusal.specs.Answer.{Answers}
-use Rattle.runner.specs.FileDay.{with-record, sheet-in, sheet-refusal, roster-in, roster-refusal, day-refusal}
-use Rattle.runner.specs.Printed.{day-lines}
+use Rattle.rules.specs.FileDay.{with-record, sheet-in, sheet-refusal, roster-in, roster-refusal, day-refusal}
+use Rattle.rules.specs.Printed.{day-lines}
 use Rattle.runner.specs.declared.halt.Halt.{Halt}
 use Rattle.runner.specs.declared.halt.Halt.the-variants.{Refused, NoMemory}
 
@@ -36,6 +36,6 @@ RosterRead f (Err NoMemory) = Unit {0}
 
 -- a day adds its lines to the text, or ends before anything is printed
 abbrev pub Ends : List ℕ → List ℕ → Result (Unit {0}) Halt → List ℕ → Type 0
-Ends f old (Ok _) new = day-refusal f ≡ None
+Ends f old (Ok _) new = (day-refusal f ≡ None) × (new ≡ old ++ day-lines f)
 Ends f old (Err (Refused e)) new = (day-refusal f ≡ Some (refusal-of e)) × (new ≡ old)
 Ends f old (Err NoMemory) new = Unit {0}

@@ -1,3 +1,2 @@
-pub mod FileDay
-pub mod Printed
+pub mod Sessions
 pub mod Ending

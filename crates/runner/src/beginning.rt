@@ -10,7 +10,7 @@ ghost use Rattle.refusal.specs.Answer.{Answers};
 ghost use Rattle.sheet.specs.Meaning.{sheet-of};
 ghost use Rattle.intake.specs.Rosters.{roster-of};
 ghost use Rattle.dayfile.specs.Meaning.{file-of, shorts-of};
-ghost use Rattle.runner.specs.FileDay.{sheet-in};
+ghost use Rattle.rules.specs.FileDay.{sheet-in};
 ghost use Rattle.runner.specs.Ending.{SheetRead, Enrolled, RosterRead};
 use crate::halt::Halt;
 use crate::halt::HaltFromAllocError;

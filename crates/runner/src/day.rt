@@ -2,10 +2,7 @@
 ghost use mathlib.Core.Path.{_≡_};
 ghost use Rattle.std.specs.Of.Vec.{vec-items};
 ghost use Rattle.std.specs.Vec.{made};
-ghost use Rattle.std.specs.declared.option.Option.the-variants.{Some};
-ghost use Rattle.rules.specs.Refusals as rules;
-ghost use Rattle.rules.specs.Wording.{refusal-line};
-ghost use Rattle.runner.specs.FileDay.{day-refusal};
+ghost use Rattle.rules.specs.Printed.{printed};
 ghost use Rattle.runner.specs.Ending.{Ends};
 use crate::beginning::roster_from;
 use crate::beginning::sheet_from;
@@ -44,7 +41,7 @@ fn print_day(text: &mut Vec<u8>, heap: Global, file: &[u8]) -> Result<(), Halt>
 
 /// The text that is printed for a day file, whatever its bytes.
 pub fn run(heap: Global, file: &[u8]) -> Result<Vec<u8>, AllocError>
-    ensures ended { λ r. ⌜ made r (λ v. (e : rules.Refusal) → day-refusal (now (file .entry)) ≡ Some e → vec-items v ≡ refusal-line e) ⌝ }
+    ensures { λ r. ⌜ made r (λ v. vec-items v ≡ printed (now (file .entry))) ⌝ }
 {
     let mut text = Vec::new(heap);
     match print_day(&mut text, heap, file) {

@@ -9,7 +9,7 @@ use Rattle.rules.specs.FileForm.{members-in}
 use Rattle.rules.specs.FileRecords.{member-in}
 use Rattle.sheet.specs.Meaning.{sheet-of}
 use Rattle.intake.specs.Rosters.{roster-of}
-use Rattle.runner.specs.FileDay.{sheet-in, member-refusal, roster-after, roster-refusal, roster-in}
+use Rattle.rules.specs.FileDay.{sheet-in, member-refusal, roster-after, roster-refusal, roster-in}
 use Rattle.runner.proofs.Stages.{one-more, stopped}
 use Rattle.runner.proofs.Additions.{roster-begun, roster-stage}
 use Rattle.runner.proofs.beginning.roster_from.Needs as need

@@ -6,7 +6,7 @@ use Rattle.std.specs.declared.option.Option.the-variants.{None}
 use Rattle.refusal.specs.Meaning.{refusal-of}
 use Rattle.rules.specs.FileForm.{currencies-in}
 use Rattle.sheet.specs.Meaning.{sheet-of}
-use Rattle.runner.specs.FileDay.{sheet-after, sheet-refusal, sheet-in}
+use Rattle.rules.specs.FileDay.{sheet-after, sheet-refusal, sheet-in}
 use Rattle.runner.proofs.Stages.{one-more, stopped}
 use Rattle.runner.proofs.Additions.{sheet-begun, sheet-stage}
 use Rattle.runner.proofs.beginning.sheet_from.Needs as need

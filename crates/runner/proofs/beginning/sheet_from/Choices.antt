@@ -1,7 +1,7 @@
 use mathlib.Core.Path.{_≡_}
 use Rattle.std.specs.declared.option.Option.the-variants.{None}
 use Rattle.sheet.specs.Meaning.{sheet-of}
-use Rattle.runner.specs.FileDay.{sheet-after, sheet-refusal}
+use Rattle.rules.specs.FileDay.{sheet-after, sheet-refusal}
 use Rattle.runner.proofs.beginning.sheet_from.Given as given
 
 abbrev pub Inv-loop-k : given.InvT-loop-k

@@ -3,17 +3,16 @@ use mathlib.Core.List.{List, [], _++_}
 use Prim.Native.Nat.{ℕ, zero, suc}
 use Rattle.std.specs.declared.option.Option.{Option}
 use Rattle.std.specs.declared.option.Option.the-variants.{Some, None}
-use Rattle.rules.specs.First.{first-of}
 use Rattle.rules.specs.Refusals.{Refusal}
-use Rattle.rules.specs.Matching.{instruction-causes}
+use Rattle.rules.specs.Setting.{Setting}
 use Rattle.rules.specs.Calls as calls
-use Rattle.rules.specs.Books.{closed}
+use Rattle.rules.specs.Books.{Books, closed}
 use Rattle.rules.specs.Calls.{Answer}
 use Rattle.rules.specs.Statements.{statement-of}
 use Rattle.rules.specs.Wording.{refusal-line}
 use Rattle.rules.specs.FileForm.{members-in, instructions-in, steps-in}
-use Rattle.rules.specs.FileRecords.{instruction-in, step-in}
-use Rattle.runner.specs.FileDay.{day-refusal, terms-in, book-after, setting-in, carried-out, books-after}
+use Rattle.rules.specs.FileRecords.{step-in}
+use Rattle.rules.specs.FileDay.{day-refusal, instruction-refusal, book-after, setting-in, carried-out, books-after}
 
 -- the refusal in an answer
 abbrev pub refusal-in : Answer → Option Refusal
@@ -30,21 +29,21 @@ line-at place (Some e) = refusal-line (record { number = e .number; layer = e .l
 -- the lines of the first k instructions: each names its number among them
 unfoldable pub instruction-lines : List ℕ → ℕ → List ℕ
 instruction-lines f zero = []
-instruction-lines f (suc k) = instruction-lines f k ++ line-at k (first-of (instruction-causes (terms-in f) (book-after f k) (instruction-in f k)))
+instruction-lines f (suc k) = instruction-lines f k ++ line-at k (instruction-refusal f (book-after f k) k)
 
 -- the lines of the first k steps, likewise
 unfoldable pub step-lines : List ℕ → ℕ → List ℕ
 step-lines f zero = []
 step-lines f (suc k) = step-lines f k ++ line-at k (refusal-in (carried-out (setting-in f) (books-after f k) (step-in f k) .answer))
 
--- the statements of the first k members, when the day is closed after its last step
-unfoldable pub statements : List ℕ → ℕ → List ℕ
-statements f zero = []
-statements f (suc k) = statements f k ++ statement-of (setting-in f) (closed (books-after f (steps-in f))) k
+-- the statements of the first k members
+unfoldable pub statements : Setting → Books → ℕ → List ℕ
+statements s b zero = []
+statements s b (suc k) = statements s b k ++ statement-of s b k
 
--- all lines of a day that is not ended by a refusal
+-- all lines of a day that is not ended by a refusal: it is closed after its last step
 abbrev pub day-lines : List ℕ → List ℕ
-day-lines f = instruction-lines f (instructions-in f) ++ step-lines f (steps-in f) ++ statements f (members-in f)
+day-lines f = instruction-lines f (instructions-in f) ++ step-lines f (steps-in f) ++ statements (setting-in f) (closed (books-after f (steps-in f))) (members-in f)
 
 -- the line of the refusal that ends the day, alone; or all lines of the day
 abbrev pub lines-unless : Option Refusal → List ℕ → List ℕ

@@ -68,6 +68,13 @@ abbrev pub kept-unless : Option Refusal → Terms → Book → Instruction → B
 kept-unless None t b i = taken-in t b i
 kept-unless (Some e) t b i = b
 
+-- the refusal of the i-th instruction by an intake, and what the intake is after it
+abbrev pub instruction-refusal : List ℕ → Book → ℕ → Option Refusal
+instruction-refusal f b i = first-of (instruction-causes (terms-in f) b (instruction-in f i))
+
+abbrev pub next-book : List ℕ → Book → ℕ → Book
+next-book f b i = kept-unless (instruction-refusal f b i) (terms-in f) b (instruction-in f i)
+
 -- the intake after the first k instructions
 unfoldable pub book-after : List ℕ → ℕ → Book
 book-after f zero = record {
@@ -76,7 +83,7 @@ book-after f zero = record {
   matched = 0;
   pair = λ _. record { number = 0; first = 0; second = 1; buys = 0; bought = 0; sells = 1; sold = 0; reference = 0; weight = 0 };
 }
-book-after f (suc k) = kept-unless (first-of (instruction-causes (terms-in f) (book-after f k) (instruction-in f k))) (terms-in f) (book-after f k) (instruction-in f k)
+book-after f (suc k) = next-book f (book-after f k) k
 
 abbrev pub pairs-in : Book → List Pair
 pairs-in b = listed (b .matched) (b .pair)

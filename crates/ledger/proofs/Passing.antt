@@ -1,6 +1,6 @@
 -- Settle, pass by pass.
 use Rattle.std.proofs.Common.{◌≡◌, ℕ, zero, suc, ◌+◌, ◌-◌, ◌<◌, ◌≤◌, List, [], ◌∷◌, ◌++◌, map, length, ℤ, Some, None, vec_items, vec_len, Option, sym, refl, ap, ◌∙◌, subst, arith}
-use Rattle.std.proofs.lemmas.List.{length_append, length-map}
+use Rattle.std.proofs.lemmas.List.{length-append, length-map}
 use Rattle.rules.specs.Pairs as rules
 use Rattle.rules.specs.Pairs.{after_pair}
 use Rattle.rules.specs.Setting.{Setting}
@@ -90,7 +90,7 @@ module _ (o n n' : Ledger) (done made : ℕ) (h : UnderWay o n done made) (t : L
       let e : still o n made ≡ and_before now.settled (still o n' (made + 1)) =
       passes_go (length (queue_of o) - made) (length (queue_of o) - (made + 1)) (setting_within o.accounts) (reserve_of o.accounts) (account n.accounts) (queue_of n) fuel l'
       ∙ (λ j. and_before now.settled (passes (length (queue_of o) - (made + 1)) (setting_within o.accounts) (reserve_of o.accounts) (sym after j) (sym waits j))) in
-      let more = length_append now.settled (still o n' (made + 1)).settled in
+      let more = length-append now.settled (still o n' (made + 1)).settled in
       record {
         holdings = settled_in _ _ _ (then_moves _ _ _ _ _ h.holdings t.holdings);
         pairs_stay = t.pairs_stay ∙ h.pairs_stay;

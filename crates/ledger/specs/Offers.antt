@@ -30,13 +30,6 @@ pub record PaidOut (p q : Position) (a : ℕ) : Type 0 where
   pub in_is : q.paid_in.0 ≡ p.paid_in.0
   pub out_is : q.paid_out.0 ≡ p.paid_out.0 + a
 
--- after a release of a, which was reserved
-pub record Released (p q : Position) (a : ℕ) : Type 0 where
-  pub account_is : q.account.0 ≡ p.account.0 +ℤ pos a
-  pub reserved_is : q.reserved.0 ≡ p.reserved.0 - a
-  pub in_is : q.paid_in.0 ≡ p.paid_in.0
-  pub out_is : q.paid_out.0 ≡ p.paid_out.0
-
 -- m is on the roster and c on the sheet
 abbrev pub On : Setting → ℕ → ℕ → Type 0
 On s m c = (m < s.roster.members) × (c < s.sheet.currencies)
@@ -52,12 +45,3 @@ ReserveOffered s b p m c a (Err e) = first_of (reserve_causes s b m c a) ≡ Som
 abbrev pub PaymentOffered : Setting → Books → Position → ℕ → ℕ → ℕ → Result Position Refusal → Type 0
 PaymentOffered s b p m c a (Ok q) = On s m c × (first_of (held_causes s b m c a) ≡ None) × PaidOut p q a
 PaymentOffered s b p m c a (Err e) = first_of (held_causes s b m c a) ≡ Some (refusal_of e)
-
-abbrev pub ReleaseOffered : Setting → Books → Position → ℕ → ℕ → ℕ → Result Position Refusal → Type 0
-ReleaseOffered s b p m c a (Ok q) = On s m c × (first_of (held_causes s b m c a) ≡ None) × Released p q a
-ReleaseOffered s b p m c a (Err e) = first_of (held_causes s b m c a) ≡ Some (refusal_of e)
-
--- the position itself, of which a is reserved
-abbrev pub Held : Setting → Books → Position → ℕ → ℕ → ℕ → Result Position Refusal → Type 0
-Held s b p m c a (Ok q) = On s m c × (first_of (held_causes s b m c a) ≡ None) × (q ≡ p) × (a ≤ p.reserved.0)
-Held s b p m c a (Err e) = first_of (held_causes s b m c a) ≡ Some (refusal_of e)

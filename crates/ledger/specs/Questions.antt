@@ -1,11 +1,12 @@
 -- What the ledger answers to a question.
 use Rattle.std.specs.Prelude.{◌≡◌, ℕ, ◌<◌, Some, None, Ok, Err, vec_len, Option, Result}
 use Rattle.rules.specs.First.{first_of}
+use Rattle.rules.specs.Pairs as rules
 use Rattle.rules.specs.Setting.{Setting}
 use Rattle.rules.specs.Tests.{stops}
 use Rattle.rules.specs.Books.{Books}
 use Rattle.rules.specs.Causes.{place_causes}
-use Rattle.rules.specs.Questions.{amount_due, numbered, told, no_such_pair}
+use Rattle.rules.specs.Questions.{amount_due, numbered, no_such_pair}
 use Rattle.refusal.specs.declared.refused.Refusal.{Refusal}
 use Rattle.refusal.specs.Meaning.{refusal_of}
 use Rattle.units.specs.declared.Units.{Units}
@@ -27,8 +28,8 @@ DueAsked s b m c (Err e) = first_of (place_causes s m c) ≡ Some (refusal_of e)
 
 -- what stops the waiting pair of that number, if anything does
 abbrev pub PairAsked : Setting → Books → ℕ → Result (Option Stop) Refusal → Type 0
-PairAsked s b n (Ok o) = told s b n ≡ Some (stopped o)
-PairAsked s b n (Err e) = (told s b n ≡ None) × (refusal_of e ≡ no_such_pair)
+PairAsked s b n (Ok o) = (p : rules.Pair) × (numbered n b.waiting ≡ Some p) × (stopped o ≡ stops s b.reserve_of b.account p)
+PairAsked s b n (Err e) = (numbered n b.waiting ≡ None) × (refusal_of e ≡ no_such_pair)
 
 -- the place of the waiting pair of that number
 abbrev pub Found : Ledger → ℕ → Option ℕ → Type 0

@@ -5,12 +5,10 @@ ghost use Rattle.rules.specs.Worth.{adjusted};
 ghost use Rattle.book.specs.Rows.{position};
 ghost use Rattle.accounts.specs.Meaning.{setting_within, account};
 ghost use Rattle.ledger.specs.Meaning.{books_within};
-ghost use Rattle.ledger.specs.Offers.{PayInOffered, ReserveOffered, PaymentOffered, ReleaseOffered, Held};
+ghost use Rattle.ledger.specs.Offers.{PayInOffered, ReserveOffered, PaymentOffered};
 
 use crate::ledger::Ledger;
-use crate::positions::{
-    MOST_SUM, MOST_UNITS, is_over_ceiling, paid_in, paid_out, released, reserved,
-};
+use crate::positions::{MOST_SUM, MOST_UNITS, is_over_ceiling, paid_in, paid_out, reserved};
 use crate::refused::refused;
 use accounts::{After, Leg};
 use book::Position;
@@ -86,9 +84,9 @@ impl Ledger {
         Ok(reserved(p, amount))
     }
 
-    // The position of which an amount is reserved, or the refusal of what is to be done with the reservation.
-    fn held(&self, member: u8, currency: u8, amount: Amount) -> Result<Position, Refusal>
-        ensures { Held (setting_within self.now.accounts) (books_within self.now) (position self.now.accounts.book member currency) member currency amount.0 result }
+    /// The position that the payment of a reservation would leave, or the session's own refusal of it. Nothing changes.
+    pub fn pay(&self, member: u8, currency: u8, amount: Amount) -> Result<Position, Refusal>
+        ensures { PaymentOffered (setting_within self.now.accounts) (books_within self.now) (position self.now.accounts.book member currency) member currency amount.0 result }
     {
         if usize::from(member) >= self.accounts.members.len() {
             return Err(refused(Cause::Member, member, currency));
@@ -100,22 +98,6 @@ impl Ledger {
         if p.reserved.0 < amount.0 {
             return Err(refused(Cause::Reserved, member, currency));
         }
-        Ok(p)
-    }
-
-    /// The position that the payment of a reservation would leave, or the session's own refusal of it. Nothing changes.
-    pub fn pay(&self, member: u8, currency: u8, amount: Amount) -> Result<Position, Refusal>
-        ensures { PaymentOffered (setting_within self.now.accounts) (books_within self.now) (position self.now.accounts.book member currency) member currency amount.0 result }
-    {
-        let p = self.held(member, currency, amount)?;
         Ok(paid_out(p, amount))
-    }
-
-    /// The position that the release of a reservation would leave, or the refusal of it. Nothing changes.
-    pub fn release(&self, member: u8, currency: u8, amount: Amount) -> Result<Position, Refusal>
-        ensures { ReleaseOffered (setting_within self.now.accounts) (books_within self.now) (position self.now.accounts.book member currency) member currency amount.0 result }
-    {
-        let p = self.held(member, currency, amount)?;
-        Ok(released(p, amount))
     }
 }

@@ -1,6 +1,6 @@
 ghost use Rattle.std.specs.Prelude.{◌≡◌, ℕ, ◌+◌, ◌-◌, ◌<◌, ◌≤◌, ℤ, pos, ◌+ℤ◌, ◌≤ℤ◌, int_lt};
 ghost use Rattle.rules.specs.Bounds.{most_units, most_sum};
-ghost use Rattle.ledger.specs.Offers.{PaidIn, Reserved, PaidOut, Released};
+ghost use Rattle.ledger.specs.Offers.{PaidIn, Reserved, PaidOut};
 
 use book::Position;
 use units::Amount;
@@ -55,19 +55,5 @@ pub(crate) fn paid_out(p: Position, amount: Amount) -> Position
         reserved: p.reserved - amount,
         paid_in: p.paid_in,
         paid_out: p.paid_out + amount,
-    }
-}
-
-// The position after what is reserved is released.
-pub(crate) fn released(p: Position, amount: Amount) -> Position
-    requires { amount.0 ≤ p.reserved.0 }
-    ensures { Released p result amount.0 }
-{
-    let reserved = p.reserved - amount;
-    Position {
-        account: p.account + amount,
-        reserved,
-        paid_in: p.paid_in,
-        paid_out: p.paid_out,
     }
 }

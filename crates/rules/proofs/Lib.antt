@@ -10,10 +10,3 @@ pub mod MatchingSteps
 pub mod Matches
 pub mod Examples
 pub mod OnlyQueue
-pub mod Worths
-pub mod Closings
-pub mod Fits
-pub mod Keeps
-pub mod Runs
-pub mod Moves
-pub mod Appends

@@ -1,11 +1,10 @@
 -- Two lists of the same pairs that are both in order are one list.
-use Rattle.std.proofs.Common.{◌≡◌, ℕ, ◌≤◌, Bool, true, false, cond, ◌&&◌, eqb, ◌⊎◌, List, [], ◌∷◌, sym, refl, ap, ◌∙◌, subst, inl, inr, arith}
+use Rattle.std.proofs.Common.{◌≡◌, ℕ, ◌+◌, ◌≤◌, Bool, true, false, cond, ◌&&◌, eqb, ◌⊎◌, List, [], ◌∷◌, sym, refl, ap, ◌∙◌, subst, inl, inr, arith}
 use Rattle.std.specs.List.{AllByRecursion as All}
 use Rattle.std.proofs.lemmas.Bool.{eqb-true, eq-eqb, and_parts, and_from}
 use Rattle.rules.specs.Pairs.{Pair}
-use Rattle.rules.specs.Setting.{Orders, InOrder, Numbered, queued}
-use Rattle.rules.specs.Queueing.{counted, SamePairs, TheQueue, QueueIsTheOnlyOne}
-use Rattle.rules.proofs.Queues.{queue_is_in_order}
+use Rattle.rules.specs.Setting.{Orders, InOrder}
+use Rattle.rules.specs.Settling.{counted, SamePairs, QueueIsTheOnlyOne}
 
 -- whether two pairs agree in all of some fields
 abbrev agree : List (Pair → ℕ) → Pair → Pair → Bool
@@ -78,13 +77,3 @@ queue_is_the_only_one before o (p ∷ ps) (q ∷ qs) i j s =
     let e = one_first before o p ps q qs i j s in
     let r = queue_is_the_only_one before o ps qs i.1 j.1 (λ kind. let z = s kind in let y : ◌≡◌ {A = ℕ} (cond (kind p) 1 0) (cond (kind q) 1 0) = ap (λ (x : Pair). cond (kind x) 1 0) e in omega arith) in
     cc
-
--- the queue of differently numbered pairs
-pub the_queue : (before : Pair → Pair → Bool) → Orders before → (ps : List Pair) → Numbered ps → TheQueue before ps (queued before ps)
-the_queue before o ps n =
-    let h = queue_is_in_order before o ps n in
-    record {
-      in_order = h.0;
-      each_once = h.1;
-      no_other = λ qs i s. queue_is_the_only_one before o qs (queued before ps) i h.0 (λ kind. sym (s kind) ∙ h.1 kind);
-    }

@@ -4,7 +4,7 @@ use borrow.Author.Differences.{ints, up, down}
 use Rattle.std.specs.List.{AllByRecursion as All}
 use Rattle.std.proofs.lemmas.Bool.{cases_eq}
 use Rattle.std.proofs.ByRecursion.{All-append}
-use Rattle.std.proofs.lemmas.List.{length_append}
+use Rattle.std.proofs.lemmas.List.{length-append}
 use Rattle.rules.specs.Pairs.{Pair, buys_by, sells_by, bought, sold, after_pair}
 use Rattle.rules.specs.Setting.{Setting}
 use Rattle.rules.specs.Tests.{Stop, stops}

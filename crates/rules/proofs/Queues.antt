@@ -1,13 +1,14 @@
 -- The queue, and settle as a relation.
-use Rattle.std.proofs.Common.{◌≡◌, ℕ, zero, suc, ◌≤◌, Bool, true, false, cond, not, List, [], ◌∷◌, length, ℤ, sym, refl, ap, ◌∙◌, subst, arith}
+use Rattle.std.proofs.Common.{◌≡◌, ℕ, zero, suc, ◌+◌, ◌<◌, ◌≤◌, Bool, true, false, cond, not, ◌⊎◌, List, [], ◌∷◌, ◌++◌, length, ℤ, Some, None, Option, sym, refl, ap, ◌∙◌, subst, inl, inr, arith}
 use Rattle.std.specs.List.{AllByRecursion as All}
 use Rattle.std.proofs.ByRecursion.{All-weaker}
+use Rattle.std.proofs.lemmas.Bool.{cases_Bool, not_from_false}
+use Rattle.rules.specs.First.{First, Never}
 use Rattle.rules.specs.Pairs.{Pair, after_pair}
 use Rattle.rules.specs.Setting.{Setting, Orders, placed, queued, InOrder, Numbered}
-use Rattle.rules.specs.Tests.{failures, stops}
-use Rattle.rules.specs.Settle.{pass, passes, passes_by}
-use Rattle.rules.specs.Settling.{Pass, over, moves, waits, last, again, Settles, SettleIsPassesUntilOneSettlesNothing}
-use Rattle.rules.specs.Queueing.{counted, SamePairs, QueueIsInOrder}
+use Rattle.rules.specs.Tests.{Stop, failures, stops}
+use Rattle.rules.specs.Settle.{Passed, pass, Settled, passes, passes_by, settle_all}
+use Rattle.rules.specs.Settling.{Pass, over, moves, waits, Passes, last, again, Settles, counted, SamePairs, QueueIsInOrder, SettleIsPassesUntilOneSettlesNothing}
 use Rattle.rules.proofs.Firsts.{first_none, first_some}
 use Rattle.rules.proofs.Pass.{pass_cases, pass-length}
 
@@ -27,15 +28,6 @@ pub queued_all : (P : Pair → Type 0) (before : Pair → Pair → Bool) (ps : L
 unfolding queued
 queued_all P before [] h = tt
 queued_all P before (p ∷ ps) h = placed_all P before p (queued before ps) h.0 (queued_all P before ps h.1)
-
-placed_numbered : (before : Pair → Pair → Bool) (p : Pair) (qs : List Pair) → All (λ q. p.number ≡ q.number → ⊥) qs → Numbered qs → Numbered (placed before p qs)
-placed_numbered before p [] n k = (tt, tt)
-placed_numbered before p (q ∷ qs) n k = placed_cases before p q qs Numbered (λ _. (n, k)) (λ _. (placed_all (λ r. q.number ≡ r.number → ⊥) before p qs (λ e. n.0 (sym e)) k.0, placed_numbered before p qs n.1 k.1))
-
-pub queued_numbered : (before : Pair → Pair → Bool) (ps : List Pair) → Numbered ps → Numbered (queued before ps)
-unfolding queued
-queued_numbered before [] n = tt
-queued_numbered before (p ∷ ps) n = placed_numbered before p (queued before ps) (queued_all (λ q. p.number ≡ q.number → ⊥) before ps n.0) (queued_numbered before ps n.1)
 
 placed-counted : (before : Pair → Pair → Bool) (p : Pair) (qs : List Pair) (kind : Pair → Bool) → counted kind (p ∷ qs) ≡ counted kind (placed before p qs)
 placed-counted before p [] kind = refl

@@ -3,10 +3,10 @@ use Rattle.std.proofs.Common.{◌≡◌, ℕ, Bool, true, false, cond, List, [],
 use Rattle.rules.specs.First.{Case, first_of}
 use Rattle.rules.specs.Refusals.{Refusal}
 use Rattle.rules.specs.Setting.{Setting}
-use Rattle.rules.specs.Books.{Books, Reservation}
+use Rattle.rules.specs.Books.{Books}
 use Rattle.rules.specs.Calls.{Call, causes, respond, respond_by}
 
-pub responds : (s : Setting) (b : Books) (q : Call Reservation) (o : Option Refusal) → first_of (causes s b q) ≡ o → respond s b q ≡ respond_by o s b q
+pub responds : (s : Setting) (b : Books) (q : Call) (o : Option Refusal) → first_of (causes s b q) ≡ o → respond s b q ≡ respond_by o s b q
 unfolding respond
 responds s b q o e = ap (λ (x : Option Refusal). respond_by x s b q) e
 

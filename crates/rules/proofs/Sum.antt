@@ -1,8 +1,8 @@
 -- Laws of the sums.
-use Rattle.std.proofs.Common.{◌≡◌, ℕ, zero, suc, ◌+◌, ◌-◌, ◌*◌, ◌<◌, ◌≤◌, Bool, true, false, cond, ◌&&◌, eqb, ◌⊎◌, ℤ, pos, ◌+ℤ◌, ◌*ℤ◌, neg_ℤ, ◌≤ℤ◌, sym, refl, ap, ◌∙◌, inl, inr, add-one, arith}
+use Rattle.std.proofs.Common.{◌≡◌, ℕ, zero, suc, ◌+◌, ◌-◌, ◌*◌, ◌<◌, ◌≤◌, Bool, true, false, cond, ◌&&◌, eqb, ◌⊎◌, ℤ, pos, negsuc, ◌+ℤ◌, ◌-ℤ◌, ◌*ℤ◌, neg_ℤ, ◌≤ℤ◌, sym, refl, ap, ◌∙◌, subst, inl, inr, mul-le-mul_right, mul-le-mul_left, add-one, arith}
 use mathlib.Core.Path.{fun_ext}
-use borrow.Author.Differences.{ints, sum_is_lem}
-use Rattle.std.proofs.lemmas.Bool.{eqb-true, eq-eqb, ne_eqb, cases_lt, cases_Bool, cond-true, cond-false, cond_both, and_from, and_parts, and_left}
+use borrow.Author.Differences.{ints, up, down, same_in, sum_is_lem, product_is}
+use Rattle.std.proofs.lemmas.Bool.{eqb-true, eqb-false, eq-eqb, ne_eqb, cases_lt, cases_Bool, cond-true, cond-false, cond_both, and_from, and_parts, and_left}
 use Rattle.rules.specs.Sums.{total, total_ℤ, only}
 
 pub total_add : (n : ℕ) (f g : ℕ → ℕ) → total n (λ i. f i + g i) ≡ total n f + total n g
@@ -39,14 +39,6 @@ total_ℤ_swap (suc n) k f = let h = total_ℤ_swap n k f in let e = total_ℤ_a
 pub total_ℤ_le : (n : ℕ) (f g : ℕ → ℤ) → ((i : ℕ) → i < n → f i ≤ℤ g i) → total_ℤ n f ≤ℤ total_ℤ n g
 total_ℤ_le zero f g h = omega (arith, ints)
 total_ℤ_le (suc n) f g h = let e = total_ℤ_le n f g (λ i l. h i (omega arith)) in let t = h n (omega arith) in omega (arith, ints)
-
-pub total_ℤ_same : (n : ℕ) (f g : ℕ → ℤ) → ((i : ℕ) → f i ≡ g i) → total_ℤ n f ≡ total_ℤ n g
-total_ℤ_same zero f g h = refl
-total_ℤ_same (suc n) f g h = let e = total_ℤ_same n f g h in let t = h n in omega (arith, ints)
-
-pub total_ℤ_from_0 : (n : ℕ) (f : ℕ → ℤ) → ((i : ℕ) → pos 0 ≤ℤ f i) → pos 0 ≤ℤ total_ℤ n f
-total_ℤ_from_0 zero f h = omega (arith, ints)
-total_ℤ_from_0 (suc n) f h = let e = total_ℤ_from_0 n f h in let t = h n in omega (arith, ints)
 
 pub total_le : (n : ℕ) (f g : ℕ → ℕ) → ((i : ℕ) → i < n → f i ≤ g i) → total n f ≤ total n g
 total_le zero f g h = omega arith

@@ -1,5 +1,5 @@
 -- The session's calls: the causes of each, in order, and what each leaves and answers.
-use Rattle.std.specs.Prelude.{◌≡◌, ℕ, ◌+◌, ◌-◌, ◌||◌, List, [], ◌∷◌, ◌++◌, length, Some, None, Option, nat_lt}
+use Rattle.std.specs.Prelude.{ℕ, ◌+◌, ◌-◌, ◌||◌, List, [], ◌∷◌, ◌++◌, length, Some, None, Option, nat_lt}
 use Rattle.rules.specs.Bounds.{most_sum, last_hour}
 use Rattle.rules.specs.First.{Case, first_of}
 use Rattle.rules.specs.Refusals.{Refusal, cause, session, nostro}
@@ -8,32 +8,28 @@ use Rattle.rules.specs.Books.{Reservation, Books, raised, lowered, credited, deb
 use Rattle.rules.specs.Causes.{at, pay_in_causes, reserve_causes, held_causes, all_reserved}
 use Rattle.rules.specs.Settle.{Settled, settle_all}
 
--- A call that may change the session: a pay-in or a reserve names member, currency and amount, the clock an hour, and
--- a pay or a release its reservation. R is how that is named.
-pub data Call (R : Type 0) : Type 0 where
-  pay_in : ℕ → ℕ → ℕ → Call R
-  clock : ℕ → Call R
-  settle : Call R
-  reserve : ℕ → ℕ → ℕ → Call R
-  pay : R → Call R
-  release : R → Call R
+-- a call that may change the session
+pub data Call : Type 0 where
+  pay_in : ℕ → ℕ → ℕ → Call
+  clock : ℕ → Call
+  settle : Call
+  reserve : ℕ → ℕ → ℕ → Call
+  pay : Reservation → Call
 
--- settle answers the pairs settled, the passes made and the pairs waiting; `no_call` stands beside an entry of a list that is no call
+-- settle answers the pairs settled, the passes made and the pairs waiting
 pub data Answer : Type 0 where
   done : Answer
   counts : ℕ → ℕ → ℕ → Answer
   reserved : Reservation → Answer
   refused : Refusal → Answer
-  no_call : Answer
 
 -- the causes of a call, in the order in which they are checked
-unfoldable pub causes : Setting → Books → Call Reservation → List (Case Refusal)
+unfoldable pub causes : Setting → Books → Call → List (Case Refusal)
 causes s b (pay_in m c a) = pay_in_causes s b m c a ++ at 16 nostro m c (nat_lt most_sum (b.cash c + a)) ∷ []
 causes s b (clock h) = cause 17 session None None (nat_lt h b.hour || nat_lt last_hour h) ∷ []
 causes s b settle = []
 causes s b (reserve m c a) = reserve_causes s b m c a ++ at 20 session m c (nat_lt (b.cash c - all_reserved s b c) a) ∷ []
 causes s b (pay r) = held_causes s b r.member r.currency r.amount ++ at 20 nostro r.member r.currency (nat_lt (b.cash r.currency) r.amount) ∷ []
-causes s b (release r) = held_causes s b r.member r.currency r.amount
 
 -- what a call leaves and answers
 pub record Step : Type 0 where
@@ -41,7 +37,7 @@ pub record Step : Type 0 where
   pub answer : Answer
 
 -- a call that is not refused
-unfoldable pub accepted : Setting → Books → Call Reservation → Step
+unfoldable pub accepted : Setting → Books → Call → Step
 accepted s b (pay_in m c a) = record {
   books = record { account = credited b.account m c a; reserve_of = b.reserve_of; paid_in = raised b.paid_in m c a; paid_out = b.paid_out; hour = b.hour; waiting = b.waiting; cash = received b.cash c a };
   answer = done;
@@ -72,29 +68,12 @@ accepted s b (pay r) = record {
   };
   answer = done;
 }
-accepted s b (release r) = record {
-  books = record {
-    account = credited b.account r.member r.currency r.amount;
-    reserve_of = lowered b.reserve_of r.member r.currency r.amount;
-    paid_in = b.paid_in;
-    paid_out = b.paid_out;
-    hour = b.hour;
-    waiting = b.waiting;
-    cash = b.cash;
-  };
-  answer = done;
-}
 
 -- a refusal changes nothing
-abbrev pub respond_by : Option Refusal → Setting → Books → Call Reservation → Step
+abbrev pub respond_by : Option Refusal → Setting → Books → Call → Step
 respond_by None s b q = accepted s b q
 respond_by (Some e) s b q = record { books = b; answer = refused e }
 
 -- what the session does at a call: the first cause that holds, or the call itself
-unfoldable pub respond : Setting → Books → Call Reservation → Step
+unfoldable pub respond : Setting → Books → Call → Step
 respond s b q = respond_by (first_of (causes s b q)) s b q
-
--- a call leaves the books and gives the answer that the rules say
-pub record Does (s : Setting) (b : Books) (q : Call Reservation) (b' : Books) (z : Answer) : Type 0 where
-  pub left : b' ≡ (respond s b q).books
-  pub said : z ≡ (respond s b q).answer

@@ -1,5 +1,5 @@
 -- The day that a file holds: what its records make, one after the other.
-use Rattle.std.specs.Prelude.{ℕ, zero, suc, List, [], ◌∷◌, ◌++◌, Some, None, Option}
+use Rattle.std.specs.Prelude.{ℕ, zero, suc, List, [], Some, None, Option}
 use Rattle.rules.specs.First.{first_of}
 use Rattle.rules.specs.Below.{listed}
 use Rattle.rules.specs.Refusals.{Refusal}
@@ -12,10 +12,8 @@ use Rattle.rules.specs.Matching.{Instruction, Terms, Book, instruction_causes, t
 use Rattle.rules.specs.Orders.{by_number}
 use Rattle.rules.specs.Setting.{Setting}
 use Rattle.rules.specs.Calls as calls
-use Rattle.rules.specs.Books.{Books, Reservation, opened}
-use Rattle.rules.specs.Calls.{Answer}
-use Rattle.rules.specs.Lists.{Entry, books_left, outstanding_left, answers_to}
-use Rattle.rules.specs.Law.{LawfulBooks}
+use Rattle.rules.specs.Books.{Books, opened}
+use Rattle.rules.specs.Calls.{Answer, Step, respond}
 use Rattle.rules.specs.FileForm.{currencies_in, members_in, instructions_in, steps_in, form_refusal}
 use Rattle.rules.specs.FileRecords.{MemberRecord, FileStep, pay_in, clock, settle, pay_out, currency_in, member_in, instruction_in, step_in}
 
@@ -91,43 +89,21 @@ pairs_in b = listed b.matched b.pair
 unfoldable pub setting_in : List ℕ → Setting
 setting_in f = record { sheet = sheet_in f; roster = roster_in f; pairs = pairs_in (book_after f (instructions_in f)); before = by_number }
 
--- the calls of a step: a pay-out is a reserve, and the payment of its reservation, which is then the only one outstanding
-abbrev pub calls_of : FileStep → List Entry
-calls_of (pay_in m c a) = calls.pay_in m c a ∷ []
-calls_of (clock h) = calls.clock h ∷ []
-calls_of settle = calls.settle ∷ []
-calls_of (pay_out m c a) = calls.reserve m c a ∷ calls.pay 0 ∷ []
+-- a reserve that is granted is paid directly
+abbrev pub paid_directly : Setting → Books → Answer → Step
+paid_directly s b (calls.reserved r) = respond s b (calls.pay r)
+paid_directly s b (calls.refused e) = record { books = b; answer = calls.refused e }
+paid_directly s b calls.done = record { books = b; answer = calls.done }
+paid_directly s b (calls.counts x y z) = record { books = b; answer = calls.counts x y z }
 
--- the calls of the first k steps
-unfoldable pub calls_before : List ℕ → ℕ → List Entry
-calls_before f zero = []
-calls_before f (suc k) = calls_before f k ++ calls_of (step_in f k)
+-- what a step leaves and answers
+abbrev pub carried_out : Setting → Books → FileStep → Step
+carried_out s b (pay_in m c a) = respond s b (calls.pay_in m c a)
+carried_out s b (clock h) = respond s b (calls.clock h)
+carried_out s b settle = respond s b calls.settle
+carried_out s b (pay_out m c a) = paid_directly s (respond s b (calls.reserve m c a)).books (respond s b (calls.reserve m c a)).answer
 
--- the session at its opening, over an empty nostro
-unfoldable pub opened_in : List ℕ → Books
-opened_in f = opened (setting_in f) (λ _. 0)
-
--- the books and the outstanding reservations after the first k steps
+-- the books after the first k steps, over an empty nostro
 unfoldable pub books_after : List ℕ → ℕ → Books
-books_after f k = books_left (setting_in f) (opened_in f) [] (calls_before f k)
-
-unfoldable pub outstanding_after : List ℕ → ℕ → List Reservation
-outstanding_after f k = outstanding_left (setting_in f) (opened_in f) [] (calls_before f k)
-
--- what the calls of the k-th step answer
-unfoldable pub answers_at : List ℕ → ℕ → List Answer
-answers_at f k = answers_to (setting_in f) (books_after f k) (outstanding_after f k) (calls_of (step_in f k))
-
--- all calls of the file's steps, what they answer, and the books after them
-abbrev pub calls_in : List ℕ → List Entry
-calls_in f = calls_before f (steps_in f)
-
-abbrev pub answers_in : List ℕ → List Answer
-answers_in f = answers_to (setting_in f) (opened_in f) [] (calls_in f)
-
-abbrev pub books_in : List ℕ → Books
-books_in f = books_after f (steps_in f)
-
--- the file's day is one of the lists of calls that the law speaks of, over an empty nostro
-abbrev pub LawfulDay : List ℕ → Type 0
-LawfulDay f = LawfulBooks (setting_in f) (λ _. 0) (calls_in f) (answers_in f) (books_in f)
+books_after f zero = opened (setting_in f) (λ _. 0)
+books_after f (suc k) = (carried_out (setting_in f) (books_after f k) (step_in f k)).books

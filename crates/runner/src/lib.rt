@@ -4,7 +4,6 @@ mod day;
 mod halt;
 mod instructions;
 mod printing;
-mod settling;
 mod steps;
 
 pub use day::run;

@@ -1,11 +1,12 @@
 -- The clock.
-use Rattle.std.proofs.Common.{◌≡◌, ℕ, ◌<◌, ◌≤◌, ltb, ◌⊎◌, [], None, refl, inl, inr}
+use Rattle.std.proofs.Common.{◌≡◌, ℕ, ◌<◌, ◌≤◌, ltb, ◌⊎◌, [], ◌∷◌, None, sym, refl, ap, ◌∙◌, inl, inr}
 use Rattle.std.proofs.lemmas.Bool.{or_left, or_right, or_from, lt-ltb, le-ltb}
 use Rattle.rules.specs.Refusals.{session}
 use Rattle.rules.specs.Setting.{Setting}
 use Rattle.rules.specs.Books.{Books}
-use Rattle.rules.specs.Calls.{clock, causes, accepted, done, refused, Does}
+use Rattle.rules.specs.Calls.{clock, causes, accepted, done, refused}
 use Rattle.rules.proofs.Firsts.{at_first, at_next}
+use Rattle.session.specs.Meaning.{Does}
 use Rattle.session.proofs.Steps.{turned_away, let_through}
 
 pub clock_turned_away : (s : Setting) (b : Books) (h : ℕ) → (h < b.hour) ⊎ (5 < h) → Does s b (clock h) b (refused (record { number = 17; layer = session; member = None; currency = None; place = 0 }))

@@ -7,9 +7,10 @@ use Rattle.rules.specs.Refusals.{Refusal, nostro}
 use Rattle.rules.specs.Setting.{Setting}
 use Rattle.rules.specs.Books.{Books, credited, raised, received}
 use Rattle.rules.specs.Causes.{at, pay_in_causes}
-use Rattle.rules.specs.Calls.{pay_in, causes, accepted, done, refused, Does}
+use Rattle.rules.specs.Calls.{pay_in, causes, accepted, done, refused}
 use Rattle.rules.proofs.Firsts.{at_first, at_next}
 use Rattle.rules.proofs.Responses.{none_then, some_then, same_books}
+use Rattle.session.specs.Meaning.{Does}
 use Rattle.session.proofs.Steps.{turned_away, let_through}
 
 module _ (s : Setting) (b d : Books) (m c a : ℕ) where

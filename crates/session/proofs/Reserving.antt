@@ -7,9 +7,10 @@ use Rattle.rules.specs.Setting.{Setting}
 use Rattle.rules.specs.Nostro.{cash_shown, last_number}
 use Rattle.rules.specs.Books.{Books, debited, raised}
 use Rattle.rules.specs.Causes.{at, reserve_causes, all_reserved}
-use Rattle.rules.specs.Calls.{reserve, causes, accepted, reserved, refused, Does}
+use Rattle.rules.specs.Calls.{reserve, causes, accepted, reserved, refused}
 use Rattle.rules.proofs.Firsts.{at_first, at_next}
 use Rattle.rules.proofs.Responses.{none_then, some_then, same_books}
+use Rattle.session.specs.Meaning.{Does}
 use Rattle.session.proofs.Steps.{turned_away, let_through}
 
 module _ (s : Setting) (b d : Books) (m c a : ℕ) where

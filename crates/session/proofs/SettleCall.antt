@@ -1,14 +1,12 @@
 -- Settle as the session's call.
-use Rattle.std.proofs.Common.{◌≡◌, ℕ, zero, suc, Bool, List, [], ◌∷◌, map, length, ℤ, Some, None, Ok, Err, vec_items, Option, Result, sym, refl, ap, ◌∙◌, subst}
+use Rattle.std.proofs.Common.{◌≡◌, ℕ, zero, suc, Bool, List, [], ◌∷◌, map, length, ℤ, None, Ok, Err, vec_items, Option, Result, sym, refl, ap, ◌∙◌}
 use Rattle.rules.specs.Pairs as rules
 use Rattle.rules.specs.Pairs.{after_pair}
 use Rattle.rules.specs.Setting.{Setting}
 use Rattle.rules.specs.Tests.{Stop, stops}
 use Rattle.rules.specs.Settle.{Passed, pass, passed_by, Settled, passes, passes_by, settle_all}
 use Rattle.rules.specs.Books.{Books}
-use Rattle.rules.specs.Calls.{settle, Answer, causes, accepted, respond, counts, Does}
-use Rattle.rules.specs.Settling.{SettlesRightly}
-use Rattle.rules.proofs.Moves.{settle_counts_what_it_moves}
+use Rattle.rules.specs.Calls.{settle, causes, accepted, counts}
 use Rattle.rules.proofs.Responses.{responds}
 use Rattle.ledger.specs.declared.counts.Counts.{Counts}
 use Rattle.accounts.specs.declared.accounts.Accounts.{Accounts}
@@ -17,10 +15,9 @@ use Rattle.intake.specs.Parties.{pair_of}
 use Rattle.accounts.specs.declared.stop.Stop as accounts
 use Rattle.accounts.specs.Meaning.{setting_at, setting_within, account, reserve_of}
 use Rattle.ledger.specs.declared.ledger.Ledger.{Ledger}
-use Rattle.rules.specs.Questions.{numbered, told_of}
-use Rattle.ledger.specs.Meaning.{queue_of, setting_by, books_with, books_within}
+use Rattle.ledger.specs.Meaning.{setting_by, books_with, books_within}
 use Rattle.ledger.specs.Questions.{PairAsked}
-use Rattle.session.specs.Meaning.{counting}
+use Rattle.session.specs.Meaning.{Does, counting}
 use Rattle.ledger.specs.Turns.{Counted}
 use Rattle.rules.proofs.Responses.{same_books}
 
@@ -55,14 +52,7 @@ settle_does s b d x c e n p q r t u v w =
       said = (λ i. counts (n.settled_is i) (n.passes_is i) (n.waiting_is i)) ∙ ap (λ (y : Settled). counts (length y.settled) y.made (length y.waiting)) e ∙ sym (ap (λ y. y.answer) h);
     }
 
-pub does_rightly : (s : Setting) (b d : Books) (z : Answer) → Does s b settle d z → SettlesRightly s b d z
-does_rightly s b d z h = subst (λ (y : Answer). SettlesRightly s b d y) (sym h.said) (subst (λ (y : Books). SettlesRightly s b y (respond s b settle).answer) (sym h.left) (settle_counts_what_it_moves s b))
-
 -- a pair is stopped by the same test whatever the order, the other pairs and the cash
-same_told : (before : rules.Pair → rules.Pair → Bool) (cash : ℕ → ℕ) (x : Ledger) (p : Option rules.Pair) → told_of (setting_by before x) (books_with cash x) p ≡ told_of (setting_within x.accounts) (books_within x) p
-same_told before cash x None = refl
-same_told before cash x (Some p) = ap Some (sym (same_stops before (map pair_of (vec_items x.pairs)) x.accounts (reserve_of x.accounts) (account x.accounts) p))
-
 pub asked_within : (before : rules.Pair → rules.Pair → Bool) (cash : ℕ → ℕ) (x : Ledger) (n : ℕ) (r : Result (Option accounts.Stop) Refusal) → PairAsked (setting_within x.accounts) (books_within x) n r → PairAsked (setting_by before x) (books_with cash x) n r
-asked_within before cash x n (Ok o) h = same_told before cash x (numbered n (queue_of x)) ∙ h
-asked_within before cash x n (Err e) h = (same_told before cash x (numbered n (queue_of x)) ∙ h.0, h.1)
+asked_within before cash x n (Ok o) h = (h.0, h.1, h.2 ∙ same_stops before (map pair_of (vec_items x.pairs)) x.accounts (reserve_of x.accounts) (account x.accounts) h.0)
+asked_within before cash x n (Err e) h = h

@@ -5,7 +5,7 @@ use Rattle.rules.specs.Setting.{Setting}
 use Rattle.rules.specs.Books as books
 use Rattle.rules.specs.Calls as calls
 use Rattle.rules.specs.Books.{Books}
-use Rattle.rules.specs.Calls.{Call, Answer, Does}
+use Rattle.rules.specs.Calls.{Call, Answer, respond}
 use Rattle.refusal.specs.declared.refused.Refusal.{Refusal}
 use Rattle.refusal.specs.Meaning.{refusal_of}
 use Rattle.ledger.specs.Meaning.{setting_by, books_with}
@@ -38,6 +38,11 @@ reserving (Err e) = calls.refused (refusal_of e)
 abbrev pub counting : Counts → Answer
 counting c = calls.counts c.settled c.passes c.waiting
 
+-- a call leaves the books and gives the answer that the rules say
+pub record Does (s : Setting) (b : Books) (q : Call) (b' : Books) (z : Answer) : Type 0 where
+  pub left : b' ≡ (respond s b q).books
+  pub said : z ≡ (respond s b q).answer
+
 -- what stays stays, and the call does what the rules say
-abbrev pub Makes : {N O : Type 0} → (N → ℕ → ℕ) → (O → rules.Pair → rules.Pair → Bool) → Session N O → Call books.Reservation → Session N O → Answer → Type 0
+abbrev pub Makes : {N O : Type 0} → (N → ℕ → ℕ) → (O → rules.Pair → rules.Pair → Bool) → Session N O → Call → Session N O → Answer → Type 0
 Makes cash before x q y z = (setting_of cash before y ≡ setting_of cash before x) × Does (setting_of cash before x) (books_of cash before x) q (books_of cash before y) z

@@ -1,7 +1,6 @@
 ghost use Rattle.std.specs.Prelude.{◌≡◌, ℕ, Some};
-ghost use Rattle.rules.specs.Calls.{clock as clockTo, pay_in as payIn, settle as settleAll, reserve as reserveOf, pay as payOf, release as releaseOf};
-ghost use Rattle.rules.specs.Settling.{SettlesRightly};
-ghost use Rattle.session.specs.Meaning.{setting_of, books_of, Makes, plainly, reserving, counting, token};
+ghost use Rattle.rules.specs.Calls.{clock as clockTo, pay_in as payIn, settle as settleAll, reserve as reserveOf, pay as payOf};
+ghost use Rattle.session.specs.Meaning.{Makes, plainly, reserving, counting, token};
 
 use crate::reservation::Reservation;
 use crate::session::Session;
@@ -63,8 +62,7 @@ impl<N: Nostro, O: QueueOrder> Session<N, O> {
 
     /// Settles waiting pairs, by passes in queue order until one settles nothing.
     pub fn settle(&mut self) -> Counts
-        ensures makes { Makes N.Nostro.cash O.QueueOrder.before self.old settleAll self.new (counting result) }
-        ensures rightly { SettlesRightly (setting_of N.Nostro.cash O.QueueOrder.before self.old) (books_of N.Nostro.cash O.QueueOrder.before self.old) (books_of N.Nostro.cash O.QueueOrder.before self.new) (counting result) }
+        ensures { Makes N.Nostro.cash O.QueueOrder.before self.old settleAll self.new (counting result) }
     {
         self.ledger.settle()
     }
@@ -115,19 +113,5 @@ impl<N: Nostro, O: QueueOrder> Session<N, O> {
             }
             Err(_) => Err(refused_by_nostro(Cause::Cash, member, currency)),
         }
-    }
-
-    /// Puts a reservation back into its account. Refused or not, it is used up.
-    pub fn release(&mut self, reservation: Reservation) -> Result<(), Refusal>
-        ensures { Makes N.Nostro.cash O.QueueOrder.before self.old (releaseOf (token reservation)) self.new (plainly result) }
-    {
-        let Reservation {
-            member,
-            currency,
-            amount,
-        } = reservation;
-        let position = self.ledger.release(member, currency, amount)?;
-        self.ledger.accounts.book.put(member, currency, position);
-        Ok(())
     }
 }

@@ -8,7 +8,6 @@ use crate::reservation::Reservation;
 use crate::session::Session;
 use nostro::Nostro;
 use queue::QueueOrder;
-use std::collections::VecDeque;
 
 impl<N: Nostro, O: QueueOrder> Session<N, O> {
     /// The day that is over: every outstanding reservation is back in its account, and nothing else changes.
@@ -38,13 +37,5 @@ impl<N: Nostro, O: QueueOrder> ClosedDay<N, O> {
             currency: _,
             amount: _,
         } = reservation;
-    }
-
-    /// Takes all reservations that are left over.
-    pub fn lapse_all(&self, mut outstanding: VecDeque<Reservation>) {
-        while let Some(reservation) = outstanding.pop_front() {
-            self.lapse(reservation);
-        }
-        outstanding.destroy_empty();
     }
 }

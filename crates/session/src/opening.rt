@@ -1,6 +1,4 @@
 ghost use Rattle.std.specs.Prelude.{◌≡◌, ℕ, ◌≤◌, vec_len, vec_capacity};
-ghost use Rattle.rules.specs.Setting.{Sound};
-ghost use Rattle.rules.specs.Queueing.{TheQueue};
 ghost use Rattle.rules.specs.Books.{opened};
 ghost use Rattle.book.specs.Rows.{position, nothing};
 ghost use Rattle.session.specs.Meaning.{setting_of, books_of};
@@ -29,13 +27,9 @@ fn empty_book(mut rows: Vec<Row>, members: usize) -> Book
 
 impl<N: Nostro, O: QueueOrder> Session<N, O> {
     /// The session that an intake becomes: all accounts are 0, all pairs wait in queue order, and unmatched instructions lapse.
-    ///
-    /// Its queue is the one list of its pairs that is in order.
     pub fn open(intake: Intake, nostro: N, order: O) -> Session<N, O>
         ensures setting { setting_of N.Nostro.cash O.QueueOrder.before result ≡ day_of (O.QueueOrder.before order) intake }
         ensures books { books_of N.Nostro.cash O.QueueOrder.before result ≡ opened (day_of (O.QueueOrder.before order) intake) (N.Nostro.cash nostro) }
-        ensures sound { Sound (setting_of N.Nostro.cash O.QueueOrder.before result) }
-        ensures queue { TheQueue (setting_of N.Nostro.cash O.QueueOrder.before result).before (setting_of N.Nostro.cash O.QueueOrder.before result).pairs (books_of N.Nostro.cash O.QueueOrder.before result).waiting }
     {
         let Opening {
             sheet,

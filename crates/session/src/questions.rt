@@ -1,4 +1,4 @@
-ghost use Rattle.std.specs.Prelude.{◌≡◌, ℕ};
+ghost use Rattle.std.specs.Prelude.{ℕ};
 ghost use Rattle.ledger.specs.Questions.{AccountAsked, DueAsked, PairAsked};
 ghost use Rattle.session.specs.Meaning.{setting_of, books_of};
 
@@ -29,12 +29,5 @@ impl<N: Nostro, O: QueueOrder> Session<N, O> {
         ensures { PairAsked (setting_of N.Nostro.cash O.QueueOrder.before self.now) (books_of N.Nostro.cash O.QueueOrder.before self.now) number result }
     {
         self.ledger.stopped_by(number)
-    }
-
-    /// The nostro, with the cash that it has now.
-    pub fn nostro(&self) -> &N
-        ensures { result.now ≡ self.now.nostro }
-    {
-        &self.nostro
     }
 }

@@ -1,4 +1,4 @@
-use Rattle.std.proofs.Common.{◌≡◌, ℕ, List, ◌++◌, Some, None, Err, vec_items, Option, sym, ap, ◌∙◌, subst, arith}
+use Rattle.std.proofs.Common.{◌≡◌, ℕ, List, [], ◌++◌, Some, None, Err, vec_items, Option, sym, ap, ◌∙◌, subst}
 use Rattle.rules.specs.Refusals.{Refusal}
 use Rattle.rules.specs.Wording.{refusal_line}
 use Rattle.refusal.specs.Meaning.{refusal_of}
@@ -7,24 +7,15 @@ use Rattle.runner.specs.Ending.{Ends}
 use Rattle.runner.specs.declared.halt.Halt.{Halt}
 use Rattle.runner.proofs.day.run.Goals as goal
 
-some_or_none : {o : Option Refusal} {e : Refusal} → o ≡ Some e → o ≡ None → ⊥
-some_or_none p q = let z : ◌≡◌ {A = ℕ} 0 1 = cc in omega arith
-
 pub returns-in-Ok : goal.returns-in-Ok
 returns-in-Ok c =
     let f = c.args.file.now in
     let p = c.in-Ok.ensures in
-    record {
-      text = p.1 ∙ ap (λ (t : List ℕ). t ++ day_lines f) c.new-text.ensures.items ∙ ap (λ (o : Option Refusal). lines_unless o f) (sym p.0);
-      lawful = λ _. p.2;
-    }
+    p.1 ∙ ap (λ (t : List ℕ). t ++ day_lines f) c.new-text.ensures.items ∙ ap (λ (o : Option Refusal). lines_unless o f) (sym p.0)
 
 pub returns-in-ok-print-refusal : goal.returns-in-ok-print-refusal
 returns-in-ok-print-refusal c =
     let f = c.args.file.now in
     let e = refusal_of c.in-Refused.e in
     let p = subst (λ (x : Halt). Ends f (vec_items c.new-text.result) (Err x) (vec_items c.print-day.new.text)) c.in-Refused.is c.in-Err.ensures in
-    record {
-      text = c.in-ok-print-refusal.ensures ∙ ap (λ (t : List ℕ). t ++ refusal_line e) (p.1 ∙ c.new-text.ensures.items) ∙ ap (λ (o : Option Refusal). lines_unless o f) (sym p.0);
-      lawful = λ none. absurd (some_or_none p.0 none);
-    }
+    c.in-ok-print-refusal.ensures ∙ ap (λ (t : List ℕ). t ++ refusal_line e) (p.1 ∙ c.new-text.ensures.items) ∙ ap (λ (o : Option Refusal). lines_unless o f) (sym p.0)

@@ -1,4 +1,4 @@
-use Rattle.std.proofs.Common.{◌≤◌, refl, arith, rules}
+use Rattle.std.proofs.Common.{◌≤◌, refl, arith}
 use Rattle.std.proofs.lemmas.Result.{err_from_is_err_and}
 use Rattle.book.proofs.Tables.{put_debited, put_raised, put_kept}
 use Rattle.session.proofs.Reserving.{reserve_turned_away, reserve_short, reserve_done, free_short, free_enough}
@@ -11,7 +11,7 @@ pub returns-then-free-amount : goal.returns-then-free-amount
 returns-then-free-amount g c =
     let h = c.in-ok-position.ensures in
     let l : c.args.currency ≤ 23 = omega (arith, h.0.1, c.args.self.now.ledger.accounts.sheet.few) in
-    let w = free_short (g.N.Nostro.cash c.args.self.now.nostro) c.args.currency c.args.amount.0 _ c.saturating-sub-free.result c.cash-in-cash.result.0 c.reserved-in.result.0 l (search rules) c.cash-in-cash.ensures c.reserved-in.ensures.value c.reserved-in.ensures.bound h.1 (search rules) in
+    let w = free_short (g.N.Nostro.cash c.args.self.now.nostro) c.args.currency c.args.amount.0 _ c.saturating-sub-free.result _ _ l c.saturating-sub-free.ensures c.cash-in-cash.ensures c.reserved-in.ensures.value c.reserved-in.ensures.bound h.1 c.if-free-amount.true in
     (refl, reserve_short _ _ _ _ _ _ h.2 w refl)
 
 pub returns : goal.returns
@@ -20,7 +20,7 @@ returns g c =
     let x = c.args.self.now.ledger.accounts in
     let p = c.put.ensures.put (omega (arith, h.0.0, x.even), omega (arith, h.0.1, x.sheet.few)) in
     let l : c.args.currency ≤ 23 = omega (arith, h.0.1, x.sheet.few) in
-    let w = free_enough (g.N.Nostro.cash c.args.self.now.nostro) c.args.currency c.args.amount.0 _ c.saturating-sub-free.result c.cash-in-cash.result.0 c.reserved-in.result.0 l (search rules) c.cash-in-cash.ensures c.reserved-in.ensures.value (search rules) in (
+    let w = free_enough (g.N.Nostro.cash c.args.self.now.nostro) c.args.currency c.args.amount.0 _ c.saturating-sub-free.result _ _ l c.saturating-sub-free.ensures c.cash-in-cash.ensures c.reserved-in.ensures.value c.if-free-amount.false in (
       refl,
       reserve_done _ _ _ _ _ _ h.2 w
           (put_debited _ _ _ _ _ p _ (λ x. x.account.0) h.3.account_is) (put_raised _ _ _ _ _ p _ (λ x. x.reserved.0) h.3.reserved_is)

@@ -1,5 +1,0 @@
-use Rattle.rules.proofs.Runs.{every_run_is_lawful}
-use Rattle.rules.proofs.every_run_is_lawful.Goals as goal
-
-pub returns : goal.returns
-returns c = every_run_is_lawful

@@ -1,7 +1,6 @@
 -- A pair that nothing stops has room and cover on both rows, and its four moves are the pair's.
-use Rattle.std.proofs.Common.{◌≡◌, ℕ, ◌+◌, ◌^◌, ◌≤◌, ◌⊎◌, ℤ, pos, ◌+ℤ◌, ◌-ℤ◌, neg_ℤ, ◌≤ℤ◌, None, sym, refl, ap, ◌∙◌, subst, inl, inr, arith}
+use Rattle.std.proofs.Common.{◌≡◌, ℕ, ◌≤◌, ℤ, None, sym, inr, arith}
 use borrow.Author.Differences.{ints}
-use Rattle.rules.specs.Sums.{only}
 use Rattle.rules.specs.First.{Never}
 use Rattle.rules.specs.Pairs as rules
 use Rattle.rules.specs.Pairs.{after_pair}

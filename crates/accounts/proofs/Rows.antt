@@ -1,5 +1,5 @@
 -- A pair on each party's row.
-use Rattle.std.proofs.Common.{◌≡◌, ℕ, ◌+◌, Bool, true, false, cond, ◌&&◌, eqb, ℤ, pos, ◌+ℤ◌, ◌-ℤ◌, sym, refl, ap, ◌∙◌, arith}
+use Rattle.std.proofs.Common.{◌≡◌, ℕ, Bool, cond, ◌&&◌, eqb, ℤ, pos, ◌+ℤ◌, ◌-ℤ◌, sym, refl, ap, arith}
 use mathlib.Core.Path.{fun_ext}
 use borrow.Author.Differences.{ints}
 use Rattle.std.proofs.lemmas.Bool.{eq-eqb, cond_both}

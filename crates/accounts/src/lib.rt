@@ -1,4 +1,6 @@
 //! The members' accounts, the four tests of a pair on them, and how a pair settles.
+#![tactic(auto)]
+
 mod accounts;
 mod after;
 mod leg;

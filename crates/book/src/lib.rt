@@ -1,4 +1,6 @@
 //! The accounts of a day: a row of positions for each member.
+#![tactic(auto)]
+
 mod access;
 mod lapse;
 mod position;

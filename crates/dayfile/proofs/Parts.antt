@@ -1,5 +1,5 @@
 -- A part of a file, read alone or where it stands.
-use Rattle.std.proofs.Common.{◌≡◌, ℕ, zero, suc, ◌+◌, ◌-◌, ◌*◌, ◌/◌, ◌<◌, ◌≤◌, List, length, get_or, take, drop, refl, ◌∙◌, add-zero, add_assoc, arith, lit<, eq-eqb, ne_eqb}
+use Rattle.std.proofs.Common.{◌≡◌, ℕ, zero, suc, ◌+◌, ◌-◌, ◌*◌, ◌/◌, ◌<◌, ◌≤◌, List, length, get_or, drop, refl, ◌∙◌, add-zero, add_assoc, arith, lit<, eq-eqb, ne_eqb}
 use Rattle.std.proofs.lemmas.List.{get_or-take, get_or-drop, length-take, length-drop}
 use Rattle.rules.specs.Below.{listed}
 use Rattle.rules.specs.FileForm.{byte, four_bytes, eight_bytes}

@@ -1,4 +1,6 @@
 //! The form of a day file, and its records, which borrow codes and names from it.
+#![tactic(auto)]
+
 mod bytes;
 mod dayfile;
 mod fields;

@@ -2,7 +2,7 @@
 use Rattle.std.proofs.Common.{◌≡◌, ℕ, zero, suc, ◌+◌, ◌-◌, ◌*◌, ◌^◌, ◌<◌, ◌≤◌, true, false, eqb, ltb, List, [], ◌∷◌, ◌++◌, length, get_or, replicate, refl, ap, ◌∙◌, add-zero, arith, lit<}
 use Rattle.std.specs.List.{flat_map, AllByRecursion as All}
 use Rattle.std.proofs.ByRecursion.{All-get_or}
-use Rattle.std.proofs.lemmas.List.{length_append, length-replicate, take_at, get_or_append_left, get_or-append-add, get_or-replicate}
+use Rattle.std.proofs.lemmas.List.{length-append, length-replicate, take_at, get_or_append_left, get_or-append-add, get_or-replicate}
 use Rattle.std.proofs.lemmas.Bool.{ltb-false, eqb-false, ne_eqb, or_parts}
 use Rattle.rules.specs.Below.{listed}
 use Rattle.rules.specs.Sheet.{Currency}
@@ -21,7 +21,7 @@ all_four (x ∷ xs) = (length_number 4 x, all_four xs)
 
 pub length_currency : (c : Currency) → length c.code ≡ 3 → length (currency_bytes c) ≡ 10
 unfolding currency_bytes
-length_currency c h = simp (length_append, length_number) (omega arith)
+length_currency c h = simp (length-append, length_number) (omega arith)
 
 pub currency_back : (f : List ℕ) (i : ℕ) (c : Currency) → length c.code ≡ 3 → CurrencyFits c → Stands f i (currency_bytes c) → currency_from f i ≡ c
 unfolding currency_bytes
@@ -30,8 +30,8 @@ currency_back f i c l fits s =
     let x2 = number_bytes 1 c.instalments in
     let x3 = number_bytes 4 c.rate in
     let x4 = number_bytes 2 c.haircut in
-    let l4 : length (x1 ++ x2) ≡ 4 = simp (length_append, length_number) (omega arith) in
-    let l8 : length (x1 ++ x2 ++ x3) ≡ 8 = simp (length_append, length_number) (omega arith) in
+    let l4 : length (x1 ++ x2) ≡ 4 = simp (length-append, length_number) (omega arith) in
+    let l8 : length (x1 ++ x2 ++ x3) ≡ 8 = simp (length-append, length_number) (omega arith) in
     let s8 = stands_left f i (x1 ++ x2 ++ x3) x4 s in
     let s4 = stands_left f i (x1 ++ x2) x3 s8 in
     let code : part f i 3 ≡ c.code = rw l at (stands_left f i x1 x2 s4).1 in
@@ -52,7 +52,7 @@ no_more_off s zero h = refl
 no_more_off s (suc n) h = let e : suc n - 1 ≡ n = omega arith in rw (ne_eqb (byte s n) 32 (rw e at (h (omega arith))))
 
 length-name : (name : List ℕ) → length name ≤ 16 → length (name_bytes name) ≡ 16
-length-name name h = simp (length_append, length-replicate) (omega arith)
+length-name name h = simp (length-append, length-replicate) (omega arith)
 
 name_back : (name : List ℕ) → length name ≤ 16 → (byte name (length name - 1) ≡ 32 → ⊥) → trimmed (name_bytes name) ≡ name
 name_back name h e =
@@ -60,7 +60,7 @@ name_back name h e =
     let n = length name in
     let spaces : (j : ℕ) → j < 16 - n → byte (name ++ fill) (n + j) ≡ 32 = λ j l. get_or-append-add name fill j 0 ∙ get_or-replicate (16 - n) j 32 0 l in
     let last : 0 < n → byte (name ++ fill) (n - 1) ≡ 32 → ⊥ = λ some. rw (get_or_append_left name fill 0 (n - 1) (omega arith)) e in
-    let l : length (name ++ fill) ≡ n + (16 - n) = simp (length_append, length-replicate) in
+    let l : length (name ++ fill) ≡ n + (16 - n) = simp (length-append, length-replicate) in
     let off : trimmed_length (name ++ fill) (length (name ++ fill)) ≡ n = rw l (spaces_off (name ++ fill) n (16 - n) spaces ∙ no_more_off (name ++ fill) n last) in
     rw off (take_at name fill n refl)
 
@@ -69,8 +69,8 @@ unfolding member_bytes
 length_member m n h l =
     let shorts = length_joined (number_bytes 4) 4 m.shorts (all_four m.shorts) in
     let name = length-name m.name h in
-    length_append (name_bytes m.name ++ number_bytes 8 m.aggregate) (flat_map (number_bytes 4) m.shorts)
-    ∙ omega (arith, length_append (name_bytes m.name) (number_bytes 8 m.aggregate), length_number 8 m.aggregate)
+    length-append (name_bytes m.name ++ number_bytes 8 m.aggregate) (flat_map (number_bytes 4) m.shorts)
+    ∙ omega (arith, length-append (name_bytes m.name) (number_bytes 8 m.aggregate), length_number 8 m.aggregate)
 
 pub member_back : (f : List ℕ) (n i : ℕ) (m : MemberRecord) → name_wrong m ≡ false → length m.shorts ≡ n → MemberFits m → Stands f i (member_bytes m) → member_from f n i ≡ m
 unfolding member_bytes
@@ -81,7 +81,7 @@ member_back f n i m w l fits s =
     let x2 = number_bytes 8 m.aggregate in
     let x3 = flat_map (number_bytes 4) m.shorts in
     let l16 : length x1 ≡ 16 = length-name m.name short in
-    let l24 : length (x1 ++ x2) ≡ 24 = length_append x1 x2 ∙ omega (arith, length_number 8 m.aggregate) in
+    let l24 : length (x1 ++ x2) ≡ 24 = length-append x1 x2 ∙ omega (arith, length_number 8 m.aggregate) in
     let s24 = stands_left f i (x1 ++ x2) x3 s in
     let field : part f i 16 ≡ x1 = rw l16 at (stands_left f i x1 x2 s24).1 in
     let name : trimmed (part f i 16) ≡ m.name = ap trimmed field ∙ name_back m.name short (eqb-false (byte m.name (length m.name - 1)) 32 named.1) in
@@ -105,11 +105,11 @@ instruction_back f i x fits s =
     let x5 = number_bytes 4 x.bought in
     let x6 = number_bytes 4 x.sold in
     let x7 = number_bytes 4 x.reference in
-    let l2 : length (x1 ++ x2) ≡ 2 = simp (length_append, length_number) in
-    let l3 : length (x1 ++ x2 ++ x3) ≡ 3 = simp (length_append, length_number) in
-    let l4 : length (x1 ++ x2 ++ x3 ++ x4) ≡ 4 = simp (length_append, length_number) in
-    let l8 : length (x1 ++ x2 ++ x3 ++ x4 ++ x5) ≡ 8 = simp (length_append, length_number) in
-    let l12 : length (x1 ++ x2 ++ x3 ++ x4 ++ x5 ++ x6) ≡ 12 = simp (length_append, length_number) in
+    let l2 : length (x1 ++ x2) ≡ 2 = simp (length-append, length_number) in
+    let l3 : length (x1 ++ x2 ++ x3) ≡ 3 = simp (length-append, length_number) in
+    let l4 : length (x1 ++ x2 ++ x3 ++ x4) ≡ 4 = simp (length-append, length_number) in
+    let l8 : length (x1 ++ x2 ++ x3 ++ x4 ++ x5) ≡ 8 = simp (length-append, length_number) in
+    let l12 : length (x1 ++ x2 ++ x3 ++ x4 ++ x5 ++ x6) ≡ 12 = simp (length-append, length_number) in
     let s6 = stands_left f i (x1 ++ x2 ++ x3 ++ x4 ++ x5 ++ x6) x7 s in
     let s5 = stands_left f i (x1 ++ x2 ++ x3 ++ x4 ++ x5) x6 s6 in
     let s4 = stands_left f i (x1 ++ x2 ++ x3 ++ x4) x5 s5 in
@@ -140,9 +140,9 @@ fields_back f i kind m c hour amount hk hm hc hh ha s =
     let x3 = number_bytes 1 c in
     let x4 = number_bytes 1 hour in
     let x5 = number_bytes 4 amount in
-    let l2 : length (x1 ++ x2) ≡ 2 = simp (length_append, length_number) in
-    let l3 : length (x1 ++ x2 ++ x3) ≡ 3 = simp (length_append, length_number) in
-    let l4 : length (x1 ++ x2 ++ x3 ++ x4) ≡ 4 = simp (length_append, length_number) in
+    let l2 : length (x1 ++ x2) ≡ 2 = simp (length-append, length_number) in
+    let l3 : length (x1 ++ x2 ++ x3) ≡ 3 = simp (length-append, length_number) in
+    let l4 : length (x1 ++ x2 ++ x3 ++ x4) ≡ 4 = simp (length-append, length_number) in
     let s4 = stands_left f i (x1 ++ x2 ++ x3 ++ x4) x5 s in
     let s3 = stands_left f i (x1 ++ x2 ++ x3) x4 s4 in
     let s2 = stands_left f i (x1 ++ x2) x3 s3 in (

@@ -1,7 +1,7 @@
 -- Bytes that stand at a place of a file.
 use Rattle.std.proofs.Common.{◌≡◌, ℕ, zero, suc, ◌+◌, ◌*◌, ◌^◌, ◌<◌, ◌≤◌, List, [], ◌∷◌, ◌++◌, length, get_or, take, drop, sym, refl, ap, ◌∙◌, mul-suc, arith, take-add}
 use Rattle.std.specs.List.{flat_map, AllByRecursion as All}
-use Rattle.std.proofs.lemmas.List.{take-take, take_at, drop-take, drop-drop, drop_at, drop_more, length_append, length-drop, length-take-le, take_all, flat_map_more, same_lists}
+use Rattle.std.proofs.lemmas.List.{take-take, take_at, drop-take, drop-drop, drop_at, drop_more, length-append, length-drop, length-take-le, take_all, flat_map_more, same_lists}
 use Rattle.std.proofs.ByRecursion.{All-take, All-drop}
 use Rattle.rules.specs.FileForm.{byte, two_bytes, four_bytes, eight_bytes}
 use Rattle.rules.specs.FileRecords.{part}
@@ -19,18 +19,18 @@ whole_stands f = (omega arith, take_all (length f) f (omega arith))
 -- both of two parts that follow each other
 pub stands_left : (f : List ℕ) (i : ℕ) (xs ys : List ℕ) → Stands f i (xs ++ ys) → Stands f i xs
 stands_left f i xs ys h =
-    let l = length_append xs ys in
+    let l = length-append xs ys in
     (omega arith, sym (take-take (length xs) (length (xs ++ ys)) (drop i f) (omega arith)) ∙ ap (take (length xs)) h.1 ∙ take_at xs ys (length xs) refl)
 
 pub stands_right : (f : List ℕ) (i : ℕ) (xs ys : List ℕ) → Stands f i (xs ++ ys) → Stands f (i + length xs) ys
 stands_right f i xs ys h =
-    let l = length_append xs ys in
+    let l = length-append xs ys in
     let e : part f i (length xs + length ys) ≡ xs ++ ys = rw l at h.1 in
     (omega arith, ap (take (length ys)) (sym (drop-drop (length xs) i f)) ∙ sym (drop-take (length xs) (length ys) (drop i f)) ∙ ap (drop (length xs)) e ∙ drop_at xs ys (length xs) refl)
 
 pub stands_join : (f : List ℕ) (i : ℕ) (xs ys : List ℕ) → Stands f i xs → Stands f (i + length xs) ys → Stands f i (xs ++ ys)
 stands_join f i xs ys h k =
-    let l = length_append xs ys in
+    let l = length-append xs ys in
     let e = drop-drop (length xs) i f in
     (omega arith, rw (l, take-add (length xs) (length ys) (drop i f), e, h.1, k.1))
 
@@ -111,7 +111,7 @@ stands_after n f i xs ys l s = rw l at (stands_right f i xs ys s)
 -- records of w bytes each
 pub length_joined : {A : Type 0} (g : A → List ℕ) (w : ℕ) (xs : List A) → All (λ x. length (g x) ≡ w) xs → length (flat_map g xs) ≡ w * length xs
 length_joined g w [] a = omega arith
-length_joined g w (x ∷ xs) a = length_append (g x) (flat_map g xs) ∙ rw (a.0, length_joined g w xs a.1, mul-suc w (length xs)) (omega arith)
+length_joined g w (x ∷ xs) a = length-append (g x) (flat_map g xs) ∙ rw (a.0, length_joined g w xs a.1, mul-suc w (length xs)) (omega arith)
 
 pub stands_nth : {A : Type 0} (g : A → List ℕ) (w : ℕ) (f : List ℕ) (i : ℕ) (xs : List A) → All (λ x. length (g x) ≡ w) xs → Stands f i (flat_map g xs) → (k : ℕ) (d : A) → k < length xs → Stands f (i + w * k) (g (get_or xs k d))
 stands_nth g w f i [] a s k d h = absurd (omega arith)
@@ -127,7 +127,7 @@ nth_stand g w f i (suc n) h b all =
     let last = all n (omega arith) in
     let j : flat_map g (listed n h ++ h n ∷ []) ≡ flat_map g (listed n h) ++ g (h n) = sym (flat_map_more g [] (listed n h) (h n)) in
     let there : Stands f (i + length (flat_map g (listed n h))) (g (h n)) = rw front.0 last.1 in
-    rw (j, mul-suc w n) (length_append (flat_map g (listed n h)) (g (h n)) ∙ omega (arith, front.0, last.0), stands_join f i (flat_map g (listed n h)) (g (h n)) front.1 there)
+    rw (j, mul-suc w n) (length-append (flat_map g (listed n h)) (g (h n)) ∙ omega (arith, front.0, last.0), stands_join f i (flat_map g (listed n h)) (g (h n)) front.1 there)
 
 -- a list that is counted up from a file, as a list that is known
 pub listed_is : {A : Type 0} (n : ℕ) (h : ℕ → A) (xs : List A) → length xs ≡ n → ((k : ℕ) (d : A) → k < n → h k ≡ get_or xs k d) → listed n h ≡ xs

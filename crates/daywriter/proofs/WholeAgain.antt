@@ -2,7 +2,7 @@
 use Rattle.std.proofs.Common.{◌≡◌, ℕ, zero, suc, ◌+◌, ◌*◌, ◌^◌, ◌<◌, true, false, eqb, List, [], ◌∷◌, ◌++◌, length, take, None, sym, refl, ap, ◌∙◌, ⊎_elim, zero-add, arith, lit<}
 use Rattle.std.specs.List.{flat_map, AllByRecursion as All}
 use Rattle.std.proofs.ByRecursion.{All-push, All-get_or}
-use Rattle.std.proofs.lemmas.List.{length_append, length-take-le, flat_map_more, get_or_past, take_all}
+use Rattle.std.proofs.lemmas.List.{length-append, length-take-le, flat_map_more, get_or_past, take_all}
 use Rattle.std.proofs.lemmas.Bool.{not-false, not_from_true, eq-eqb, cases_lt, cond_both}
 use Rattle.rules.proofs.Firsts.{first_none, none_first}
 use Rattle.rules.specs.First.{Case, Never}
@@ -53,12 +53,12 @@ module _ (f : List ℕ) (bytes : All (λ b. b < 256) f) (e : form_refusal f ≡ 
       let n2 = number_bytes 2 (members_in f) in
       let n3 = number_bytes 2 (instructions_in f) in
       let n4 = number_bytes 2 (steps_in f) in
-      let l2 : length (n1 ++ n2) ≡ 4 = simp (length_append, length_number) in
-      let l3 : length (n1 ++ n2 ++ n3) ≡ 6 = simp (length_append, length_number) in
+      let l2 : length (n1 ++ n2) ≡ 4 = simp (length-append, length_number) in
+      let l3 : length (n1 ++ n2 ++ n3) ≡ 6 = simp (length-append, length_number) in
       let s2 = then 2 f 0 n1 n2 (length_number 2 (currencies_in f)) (two_stands f 0 bytes (omega arith)) (two_stands f 2 bytes (omega arith)) in
       let s3 = then 4 f 0 (n1 ++ n2) n3 l2 s2 (two_stands f 4 bytes (omega arith)) in
       rw (length_listed (currencies_in f) (currency_in f), length_listed (members_in f) (member_in f), length_listed (instructions_in f) (instruction_in f), length_listed (steps_in f) (step_in f))
-      (simp (length_append, length_number), then 6 f 0 (n1 ++ n2 ++ n3) n4 l3 s3 (two_stands f 6 bytes (omega arith)))
+      (simp (length-append, length_number), then 6 f 0 (n1 ++ n2 ++ n3) n4 l3 s3 (two_stands f 6 bytes (omega arith)))
 
   front_stands : (length front_bytes ≡ step_at f 0) × Stands f 0 front_bytes
   unfolding front_bytes currency_in member_in instruction_in
@@ -73,9 +73,9 @@ module _ (f : List ℕ) (bytes : All (λ b. b < 256) f) (e : form_refusal f ≡ 
       let cs = nth_stand currency_bytes 10 f 8 (currencies_in f) (currency_in f) (omega arith) (λ k b. currency_again f bytes (currency_at f k) (currency_ends f k e b)) in
       let ms = nth_stand member_bytes (member_size f) f at1 (members_in f) (member_in f) (omega arith) (λ k b. member_again f bytes (currencies_in f) (member_at f k) (omega (arith, member_ends f k e b))) in
       let xs = nth_stand instruction_bytes 16 f at2 (instructions_in f) (instruction_in f) (omega arith) (λ k b. (length_instruction (instruction_in f k), instruction_again f bytes (instruction_at f k) (instruction_ends f k e b))) in
-      let l1 : length (x0 ++ x1) ≡ at1 = length_append x0 x1 ∙ omega (arith, counts_stand.0, cs.0) in
-      let l2 : length (x0 ++ x1 ++ x2) ≡ at2 = length_append (x0 ++ x1) x2 ∙ omega (arith, ms.0) in
-      let l3 : length (x0 ++ x1 ++ x2 ++ x3) ≡ step_at f 0 = length_append (x0 ++ x1 ++ x2) x3 ∙ omega (arith, xs.0) in
+      let l1 : length (x0 ++ x1) ≡ at1 = length-append x0 x1 ∙ omega (arith, counts_stand.0, cs.0) in
+      let l2 : length (x0 ++ x1 ++ x2) ≡ at2 = length-append (x0 ++ x1) x2 ∙ omega (arith, ms.0) in
+      let l3 : length (x0 ++ x1 ++ x2 ++ x3) ≡ step_at f 0 = length-append (x0 ++ x1 ++ x2) x3 ∙ omega (arith, xs.0) in
       let s1 = then 8 f 0 x0 x1 counts_stand.0 counts_stand.1 cs.1 in
       let s2 = then at1 f 0 (x0 ++ x1) x2 l1 s1 (rw (zero-add at1) ms.1) in
       (l3, then at2 f 0 (x0 ++ x1 ++ x2) x3 l2 s2 (rw (zero-add at2) xs.1))
@@ -157,7 +157,7 @@ module _ (f : List ℕ) (bytes : All (λ b. b < 256) f) (e : form_refusal f ≡ 
       rw (at, clear k b) (length_part f (step_at f k) 8 ends, part_stands f (step_at f k) 8 ends)) in
       let front : length (take a f) ≡ a = length-take-le a f (omega arith) in
       let all = then a f 0 (take a f) (flat_map (cleared_step f) (listed (steps_in f) (step_at f))) front (rw front (omega arith, refl)) (rw (zero-add a) steps.1) in
-      let long : length (take a f ++ flat_map (cleared_step f) (listed (steps_in f) (step_at f))) ≡ length f = length_append (take a f) (flat_map (cleared_step f) (listed (steps_in f) (step_at f))) ∙ omega (arith, steps.0) in
+      let long : length (take a f ++ flat_map (cleared_step f) (listed (steps_in f) (step_at f))) ≡ length f = length-append (take a f) (flat_map (cleared_step f) (listed (steps_in f) (step_at f))) ∙ omega (arith, steps.0) in
       sym (rw long at all.1) ∙ take_all (length f) f (omega arith)
 
 pub read_is_written_again : ReadIsWrittenAgain

@@ -2,7 +2,7 @@
 use Rattle.std.proofs.Common.{◌≡◌, ℕ, zero, suc, ◌+◌, ◌*◌, ◌<◌, ◌≤◌, false, List, [], ◌∷◌, ◌++◌, length, get_or, None, sym, refl, ◌∙◌, mul-le-mul, zero-add, add-one, arith}
 use Rattle.std.specs.List.{flat_map, AllByRecursion as All}
 use Rattle.std.proofs.ByRecursion.{All-get_or, All-weaker}
-use Rattle.std.proofs.lemmas.List.{length_append}
+use Rattle.std.proofs.lemmas.List.{length-append}
 use Rattle.std.proofs.lemmas.Bool.{ltb-false, le-ltb, or_parts, or_from, not_from_true, eq-eqb}
 use Rattle.rules.specs.First.{Case, first_of}
 use Rattle.rules.specs.Below.{listed}
@@ -77,18 +77,18 @@ module _ (d : DayRecords) (ok : Sound d) where
       let s0 = stands_left f 0 x0 x1 s1 in
       let t3 = stands_left f 0 (n1 ++ n2 ++ n3) n4 s0 in
       let t2 = stands_left f 0 (n1 ++ n2) n3 t3 in
-      let l2 : length (n1 ++ n2) ≡ 4 = simp (length_append, length_number) in
-      let l3 : length (n1 ++ n2 ++ n3) ≡ 6 = simp (length_append, length_number) in
-      let e0 : length x0 ≡ 8 = simp (length_append, length_number) in
+      let l2 : length (n1 ++ n2) ≡ 4 = simp (length-append, length_number) in
+      let l3 : length (n1 ++ n2 ++ n3) ≡ 6 = simp (length-append, length_number) in
+      let e0 : length x0 ≡ 8 = simp (length-append, length_number) in
       let k1 = length_joined currency_bytes 10 d.currencies currency_sizes in
       let k2 = length_joined member_bytes (24 + 4 * length d.currencies) d.members member_sizes in
       let k3 = length_joined instruction_bytes 16 d.instructions instruction_sizes in
       let at1 = 8 + 10 * length d.currencies in
       let at2 = at1 + (24 + 4 * length d.currencies) * length d.members in
       let at3 = at2 + 16 * length d.instructions in
-      let e1 : length (x0 ++ x1) ≡ at1 = length_append x0 x1 ∙ omega arith in
-      let e2 : length (x0 ++ x1 ++ x2) ≡ at2 = length_append (x0 ++ x1) x2 ∙ rw (e1, k2) in
-      let e3 : length (x0 ++ x1 ++ x2 ++ x3) ≡ at3 = length_append (x0 ++ x1 ++ x2) x3 ∙ rw (e2, k3) in
+      let e1 : length (x0 ++ x1) ≡ at1 = length-append x0 x1 ∙ omega arith in
+      let e2 : length (x0 ++ x1 ++ x2) ≡ at2 = length-append (x0 ++ x1) x2 ∙ rw (e1, k2) in
+      let e3 : length (x0 ++ x1 ++ x2 ++ x3) ≡ at3 = length-append (x0 ++ x1 ++ x2) x3 ∙ rw (e2, k3) in
       record {
         currencies = stands_two f 0 (length d.currencies) (omega arith) (stands_left f 0 n1 n2 t2);
         members = stands_two f 2 (length d.members) (omega arith) (stands_after 2 f 0 n1 n2 (length_number 2 (length d.currencies)) t2);
@@ -154,7 +154,7 @@ module _ (d : DayRecords) (ok : Sound d) where
         let k2 = length_joined member_bytes (24 + 4 * length d.currencies) d.members member_sizes in
         let k3 = length_joined instruction_bytes 16 d.instructions instruction_sizes in
         let k4 = length_joined step_bytes 8 d.steps step_sizes in
-        l ∙ simp (at.currencies, at.members, at.instructions, at.steps, length_append, length_number, k1, k2, k3, k4)
+        l ∙ simp (at.currencies, at.members, at.instructions, at.steps, length-append, length_number, k1, k2, k3, k4)
 
     formed : (length f ≡ length (day_bytes d)) → form_refusal f ≡ None
     unfolding form_refusal

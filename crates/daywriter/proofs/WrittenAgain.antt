@@ -1,7 +1,7 @@
 -- Records that are read and written again.
 use Rattle.std.proofs.Common.{◌≡◌, ℕ, zero, suc, ◌+◌, ◌-◌, ◌*◌, ◌<◌, ◌≤◌, true, false, cond, eqb, leb, List, ◌++◌, length, take, drop, replicate, sym, refl, ap, ◌∙◌, subst, ⊎_elim, add_assoc, arith}
 use Rattle.std.specs.List.{flat_map, AllByRecursion as All}
-use Rattle.std.proofs.lemmas.List.{length_append, length-replicate, length-take-le, length-drop, take-append-drop, get_or-take, get_or-drop, get_or-replicate, get_or_past, ext_get_or}
+use Rattle.std.proofs.lemmas.List.{length-append, length-replicate, length-take-le, length-drop, take-append-drop, get_or-take, get_or-drop, get_or-replicate, get_or_past, ext_get_or}
 use Rattle.std.proofs.lemmas.Bool.{le-ltb, eqb-false, eqb-true, ne_eqb, or_from, cases_lt, cases_Bool, cases_eq, and_parts, leb-true}
 use Rattle.rules.specs.Below.{listed}
 use Rattle.rules.specs.FileForm.{byte, two_bytes, four_bytes, eight_bytes, known_kind}
@@ -96,9 +96,9 @@ module _ (f : List ℕ) (bytes : All (λ b. b < 256) f) where
       let x3 = number_bytes 4 (four_bytes f (i + 4)) in
       let x4 = number_bytes 2 (two_bytes f (i + 8)) in
       let l1 : length x1 ≡ 3 = length_part f i 3 (omega arith) in
-      let l2 : length (x1 ++ x2) ≡ 4 = length_append x1 x2 ∙ omega (arith, length_number 1 (byte f (i + 3))) in
-      let l3 : length (x1 ++ x2 ++ x3) ≡ 8 = length_append (x1 ++ x2) x3 ∙ omega (arith, length_number 4 (four_bytes f (i + 4))) in
-      let l4 : length (x1 ++ x2 ++ x3 ++ x4) ≡ 10 = length_append (x1 ++ x2 ++ x3) x4 ∙ omega (arith, length_number 2 (two_bytes f (i + 8))) in
+      let l2 : length (x1 ++ x2) ≡ 4 = length-append x1 x2 ∙ omega (arith, length_number 1 (byte f (i + 3))) in
+      let l3 : length (x1 ++ x2 ++ x3) ≡ 8 = length-append (x1 ++ x2) x3 ∙ omega (arith, length_number 4 (four_bytes f (i + 4))) in
+      let l4 : length (x1 ++ x2 ++ x3 ++ x4) ≡ 10 = length-append (x1 ++ x2 ++ x3) x4 ∙ omega (arith, length_number 2 (two_bytes f (i + 8))) in
       let s2 = then 3 f i x1 x2 l1 (part_stands f i 3 (omega arith)) (one_stands f (i + 3) bytes (omega arith)) in
       let s3 = then 4 f i (x1 ++ x2) x3 l2 s2 (four_stands f (i + 4) bytes (omega arith)) in
       (l4, then 8 f i (x1 ++ x2 ++ x3) x4 l3 s3 (two_stands f (i + 8) bytes (omega arith)))
@@ -112,10 +112,10 @@ module _ (f : List ℕ) (bytes : All (λ b. b < 256) f) where
       let field : x1 ≡ part f i 16 = name_again (part f i 16) (length_part f i 16 (omega arith)) in
       let l1 : length x1 ≡ 16 = ap length field ∙ length_part f i 16 (omega arith) in
       let s1 : Stands f i x1 = rw field (part_stands f i 16 (omega arith)) in
-      let l2 : length (x1 ++ x2) ≡ 24 = length_append x1 x2 ∙ omega (arith, length_number 8 (eight_bytes f (i + 16))) in
+      let l2 : length (x1 ++ x2) ≡ 24 = length-append x1 x2 ∙ omega (arith, length_number 8 (eight_bytes f (i + 16))) in
       let s2 = then 16 f i x1 x2 l1 s1 (eight_stands f (i + 16) bytes (omega arith)) in
       let limits = nth_stand (number_bytes 4) 4 f (i + 24) n (λ c. four_bytes f (i + 24 + 4 * c)) (omega arith) (λ k b. (length_number 4 (four_bytes f (i + 24 + 4 * k)), four_stands f (i + 24 + 4 * k) bytes (omega arith))) in
-      (length_append (x1 ++ x2) x3 ∙ omega (arith, limits.0), then 24 f i (x1 ++ x2) x3 l2 s2 limits.1)
+      (length-append (x1 ++ x2) x3 ∙ omega (arith, limits.0), then 24 f i (x1 ++ x2) x3 l2 s2 limits.1)
 
   pub instruction_again : (i : ℕ) → i + 16 ≤ length f → Stands f i (instruction_bytes (instruction_from f i))
   unfolding instruction_bytes
@@ -127,11 +127,11 @@ module _ (f : List ℕ) (bytes : All (λ b. b < 256) f) where
       let x5 = number_bytes 4 (four_bytes f (i + 4)) in
       let x6 = number_bytes 4 (four_bytes f (i + 8)) in
       let x7 = number_bytes 4 (four_bytes f (i + 12)) in
-      let l2 : length (x1 ++ x2) ≡ 2 = simp (length_append, length_number) in
-      let l3 : length (x1 ++ x2 ++ x3) ≡ 3 = simp (length_append, length_number) in
-      let l4 : length (x1 ++ x2 ++ x3 ++ x4) ≡ 4 = simp (length_append, length_number) in
-      let l5 : length (x1 ++ x2 ++ x3 ++ x4 ++ x5) ≡ 8 = simp (length_append, length_number) in
-      let l6 : length (x1 ++ x2 ++ x3 ++ x4 ++ x5 ++ x6) ≡ 12 = simp (length_append, length_number) in
+      let l2 : length (x1 ++ x2) ≡ 2 = simp (length-append, length_number) in
+      let l3 : length (x1 ++ x2 ++ x3) ≡ 3 = simp (length-append, length_number) in
+      let l4 : length (x1 ++ x2 ++ x3 ++ x4) ≡ 4 = simp (length-append, length_number) in
+      let l5 : length (x1 ++ x2 ++ x3 ++ x4 ++ x5) ≡ 8 = simp (length-append, length_number) in
+      let l6 : length (x1 ++ x2 ++ x3 ++ x4 ++ x5 ++ x6) ≡ 12 = simp (length-append, length_number) in
       let s2 = then 1 f i x1 x2 (length_number 1 (byte f i)) (one_stands f i bytes (omega arith)) (one_stands f (i + 1) bytes (omega arith)) in
       let s3 = then 2 f i (x1 ++ x2) x3 l2 s2 (one_stands f (i + 2) bytes (omega arith)) in
       let s4 = then 3 f i (x1 ++ x2 ++ x3) x4 l3 s3 (one_stands f (i + 3) bytes (omega arith)) in

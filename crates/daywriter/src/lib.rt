@@ -1,4 +1,6 @@
 //! Writes day files, and carries the theorems on files that are written and read again.
+#![tactic(auto)]
+
 ghost use Rattle.rules.specs.FileAgain.{WrittenReadsBack as WrittenReadsBack, ReadIsWrittenAgain as ReadIsWrittenAgain};
 
 mod faults;

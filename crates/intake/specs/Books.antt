@@ -1,5 +1,5 @@
 -- What an intake means in the terms of the rules.
-use Rattle.std.specs.Prelude.{◌≡◌, ℕ, List, Ok, Err, vec_items, vec_len, Result, slice_index_or}
+use Rattle.std.specs.Prelude.{◌≡◌, List, Ok, Err, vec_items, vec_len, Result, slice_index_or}
 use Rattle.rules.specs.First.{Case}
 use Rattle.rules.specs.Refusals.{Refusal}
 use Rattle.rules.specs.Matching as rules

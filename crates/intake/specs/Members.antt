@@ -3,7 +3,6 @@ use Rattle.std.specs.Prelude.{ℕ, List, [], take, slice_index_or}
 use Rattle.std.proofs.Common.{lit≤}
 use Rattle.rules.specs.Roster as rules
 use Rattle.intake.specs.declared.name.Name.{Name}
-use Rattle.intake.specs.declared.limits.Limits.{Limits}
 use Rattle.intake.specs.declared.member.Member.{Member}
 use Rattle.intake.specs.Ranges.{no_amount}
 

@@ -1,7 +1,7 @@
 -- The ranges of limits and of a pair.
-use Rattle.std.specs.Prelude.{◌≡◌, ℕ, ◌<◌, ◌≤◌, List, ◌≢◌, slice_index_or}
+use Rattle.std.specs.Prelude.{ℕ, ◌≤◌, List, ◌≢◌, slice_index_or}
 use Rattle.units.specs.declared.Amount.{Amount}
-use Rattle.rules.specs.Bounds.{most_units, most_currencies}
+use Rattle.rules.specs.Bounds.{most_units}
 
 abbrev pub no_amount : Amount
 no_amount = record { 0 = 0 }

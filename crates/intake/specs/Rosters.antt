@@ -1,5 +1,5 @@
 -- What a roster means in the terms of the rules.
-use Rattle.std.specs.Prelude.{◌≡◌, ℕ, Ok, Err, vec_items, vec_len, Result, slice_index_or}
+use Rattle.std.specs.Prelude.{◌≡◌, Ok, Err, vec_items, vec_len, Result, slice_index_or}
 use Rattle.rules.specs.Roster as rules
 use Rattle.rules.specs.Matching as matching
 use Rattle.refusal.specs.declared.refused.NoMemory.{NoMemory}

@@ -1,4 +1,6 @@
 //! From the finished sheet to the opening of a session: the roster, the instructions and how they match.
+#![tactic(auto)]
+
 mod adding;
 mod bounds;
 mod instruction;

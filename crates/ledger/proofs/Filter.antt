@@ -1,6 +1,6 @@
 -- The waiting pairs while a pass filters them.
-use Rattle.std.proofs.Common.{◌≡◌, ℕ, ◌+◌, ◌-◌, ◌<◌, ◌≤◌, Bool, true, false, ◌⊎◌, List, [], ◌∷◌, ◌++◌, map, length, get_or, take, drop, set, ℤ, Some, None, vec_items, vec_len, Option, sym, refl, ap, ◌∙◌, subst, inl, inr, arith}
-use Rattle.std.proofs.lemmas.List.{get_or-set_same, get_or-set_other, length-set, get_or-drop, take_more_set, drop-set-lt, drop_more, drop_all, take_all, append_assoc, append-nil, map-append}
+use Rattle.std.proofs.Common.{◌≡◌, ℕ, ◌+◌, ◌<◌, ◌≤◌, false, List, [], ◌∷◌, ◌++◌, map, length, get_or, take, drop, set, ℤ, Some, None, vec_items, Option, sym, refl, ap, ◌∙◌, subst, inl, inr, arith}
+use Rattle.std.proofs.lemmas.List.{get_or-set_same, get_or-set_other, length-set, get_or-drop, take_more_set, drop-set-lt, drop_more, drop_all, append_assoc, append-nil, map-append}
 use Rattle.std.proofs.lemmas.Bool.{cases_eq}
 use Rattle.rules.specs.Pairs as rules
 use Rattle.rules.specs.Pairs.{after_pair}
@@ -13,7 +13,7 @@ use Rattle.intake.specs.declared.pair.Pair.{Pair}
 use Rattle.intake.specs.Parties.{Within, Listed, no_pair, pair_of}
 use Rattle.accounts.specs.Meaning.{setting_for, setting_within, account, reserve_of}
 use Rattle.accounts.specs.Moves.{Moves}
-use Rattle.ledger.specs.Turns.{waits_at, ComesTo, TurnedBy, Turned, passed, Leaves}
+use Rattle.ledger.specs.Turns.{waits_at, TurnedBy, Turned, passed}
 
 pub listed_at : (ps : List Pair) (m c i : ℕ) (p : Pair) → Listed ps m c → i < length ps → p ≡ get_or ps i no_pair → Within p m c
 listed_at ps m c i p h l e = subst (λ (x : Pair). Within x m c) (sym e) (h i l)

@@ -1,7 +1,6 @@
 -- The waiting pair of a number.
-use Rattle.std.proofs.Common.{◌≡◌, ℕ, ◌+◌, ◌<◌, ◌≤◌, Bool, cond, eqb, List, [], ◌∷◌, map, length, get_or, drop, Some, None, Option, sym, refl, ap, ◌∙◌}
+use Rattle.std.proofs.Common.{◌≡◌, ℕ, ◌+◌, ◌<◌, ◌≤◌, Bool, cond, eqb, List, map, length, get_or, drop, Some, None, ap, ◌∙◌}
 use Rattle.std.proofs.lemmas.Bool.{eq-eqb, ne_eqb}
-use Rattle.rules.specs.Pairs as rules
 use Rattle.intake.specs.declared.pair.Pair.{Pair}
 use Rattle.intake.specs.Parties.{no_pair, pair_of}
 use Rattle.rules.specs.Questions.{numbered}

@@ -1,14 +1,12 @@
 -- Settle, pass by pass.
-use Rattle.std.proofs.Common.{◌≡◌, ℕ, zero, suc, ◌+◌, ◌-◌, ◌<◌, ◌≤◌, List, [], ◌∷◌, ◌++◌, map, length, ℤ, Some, None, vec_items, vec_len, Option, sym, refl, ap, ◌∙◌, subst, arith}
-use Rattle.std.proofs.lemmas.List.{length-append, length-map}
+use Rattle.std.proofs.Common.{◌≡◌, ℕ, zero, suc, ◌+◌, ◌-◌, ◌<◌, ◌≤◌, List, [], ◌∷◌, map, length, ℤ, vec_items, sym, refl, ap, ◌∙◌, arith}
+use Rattle.std.proofs.lemmas.List.{length-append}
 use Rattle.rules.specs.Pairs as rules
 use Rattle.rules.specs.Pairs.{after_pair}
 use Rattle.rules.specs.Setting.{Setting}
-use Rattle.rules.specs.Tests.{Stop, stops}
-use Rattle.rules.specs.Settle.{Passed, pass, Settled, passes, and_before, settle_all}
+use Rattle.rules.specs.Settle.{Passed, pass, Settled, passes, and_before}
 use Rattle.rules.proofs.Pass.{pass_cases, passes_cases, pass-length}
 use Rattle.ledger.specs.declared.ledger.Ledger.{Ledger}
-use Rattle.intake.specs.declared.pair.Pair.{Pair}
 use Rattle.accounts.specs.Meaning.{setting_within, account, reserve_of}
 use Rattle.intake.specs.Parties.{pair_of}
 use Rattle.accounts.specs.Moves.{Moves}

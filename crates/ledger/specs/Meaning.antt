@@ -4,7 +4,7 @@ use Rattle.rules.specs.Pairs as rules
 use Rattle.rules.specs.Setting.{Setting}
 use Rattle.rules.specs.Books.{Books}
 use Rattle.intake.specs.Parties.{pair_of}
-use Rattle.accounts.specs.Meaning.{setting_at, setting_within, account, reserve_of, ins_of, outs_of}
+use Rattle.accounts.specs.Meaning.{setting_at, account, reserve_of, ins_of, outs_of}
 use Rattle.ledger.specs.declared.ledger.Ledger.{Ledger}
 
 -- the waiting pairs, in queue order

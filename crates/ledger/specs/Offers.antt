@@ -1,5 +1,5 @@
 -- What a call would make of one position, or the first cause against it.
-use Rattle.std.specs.Prelude.{◌≡◌, ℕ, ◌+◌, ◌-◌, ◌<◌, ◌≤◌, ℤ, pos, ◌+ℤ◌, ◌-ℤ◌, Some, None, Ok, Err, Result}
+use Rattle.std.specs.Prelude.{◌≡◌, ℕ, ◌+◌, ◌-◌, ◌<◌, ◌≤◌, pos, ◌+ℤ◌, ◌-ℤ◌, Some, None, Ok, Err, Result}
 use Rattle.rules.specs.Bounds.{most_units}
 use Rattle.rules.specs.First.{first_of}
 use Rattle.rules.specs.Setting.{Setting}

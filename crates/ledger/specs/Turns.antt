@@ -1,5 +1,5 @@
 -- One turn of a pass, and a pass, over the ledger.
-use Rattle.std.specs.Prelude.{◌≡◌, ℕ, ◌+◌, List, map, length, ℤ, Some, None, vec_items, vec_len, Option, slice_index_or, slice_set}
+use Rattle.std.specs.Prelude.{◌≡◌, ℕ, ◌+◌, List, map, length, ℤ, Some, None, vec_items, Option, slice_index_or, slice_set}
 use Rattle.rules.specs.Pairs as rules
 use Rattle.rules.specs.Pairs.{after_pair}
 use Rattle.rules.specs.Tests.{Stop, stops}

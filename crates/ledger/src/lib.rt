@@ -1,4 +1,6 @@
 //! What a session keeps: the tests of its calls on the accounts, and how waiting pairs settle.
+#![tactic(auto)]
+
 mod counts;
 mod ledger;
 mod offers;

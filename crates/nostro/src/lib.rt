@@ -1,4 +1,6 @@
 //! Nostros: the bank's cash, the single book, and the split over two nostros.
+#![tactic(auto)]
+
 mod correspondent;
 mod refusing;
 mod single;

@@ -1,4 +1,6 @@
 //! The queue: in which order pairs are tested, and how a queue is put in that order.
+#![tactic(auto)]
+
 mod by_number;
 mod heaviest;
 mod order;

@@ -1,4 +1,6 @@
 //! Refusals: why a call is refused, by which layer, and of whom it speaks.
+#![tactic(auto)]
+
 mod cause;
 mod layer;
 mod refused;

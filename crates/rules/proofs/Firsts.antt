@@ -1,5 +1,5 @@
 -- The first case that holds.
-use Rattle.std.proofs.Common.{◌≡◌, ℕ, Bool, true, false, cond, List, [], ◌∷◌, Some, None, Option, sym, refl, ap, ◌∙◌, subst, arith}
+use Rattle.std.proofs.Common.{◌≡◌, ℕ, Bool, true, false, cond, List, [], ◌∷◌, Some, None, Option, refl, ap, arith}
 use Rattle.rules.specs.First.{Case, first_of, First, Never}
 
 pub first_none : {A : Type 0} (xs : List (Case A)) → first_of xs ≡ None → Never xs

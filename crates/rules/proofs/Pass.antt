@@ -1,14 +1,12 @@
 -- What a pass, and settle, leave.
-use Rattle.std.proofs.Common.{◌≡◌, ℕ, zero, suc, ◌+◌, ◌-◌, ◌*◌, ◌<◌, ◌≤◌, Bool, true, false, cond, ◌⊎◌, List, [], ◌∷◌, ◌++◌, length, ℤ, pos, negsuc, ◌+ℤ◌, ◌-ℤ◌, ◌*ℤ◌, neg_ℤ, ◌≤ℤ◌, Some, None, Option, sym, refl, ap, ◌∙◌, subst, inl, inr, arith}
-use borrow.Author.Differences.{ints, up, down}
+use Rattle.std.proofs.Common.{◌≡◌, ℕ, zero, suc, ◌+◌, ◌<◌, ◌≤◌, List, [], ◌∷◌, ◌++◌, length, ℤ, pos, ◌+ℤ◌, ◌-ℤ◌, Some, None, Option, refl, ap, arith}
+use borrow.Author.Differences.{ints}
 use Rattle.std.specs.List.{AllByRecursion as All}
-use Rattle.std.proofs.lemmas.Bool.{cases_eq}
 use Rattle.std.proofs.ByRecursion.{All-append}
-use Rattle.std.proofs.lemmas.List.{length-append}
-use Rattle.rules.specs.Pairs.{Pair, buys_by, sells_by, bought, sold, after_pair}
+use Rattle.rules.specs.Pairs.{Pair, bought, sold, after_pair}
 use Rattle.rules.specs.Setting.{Setting}
 use Rattle.rules.specs.Tests.{Stop, stops}
-use Rattle.rules.specs.Settle.{Passed, and_settled, and_waiting, passed_by, pass, Settled, and_before, passes_by, passes, settle_all}
+use Rattle.rules.specs.Settle.{Passed, and_settled, and_waiting, passed_by, pass, Settled, and_before, passes_by, passes}
 
 -- one turn of a pass, by what stops its pair
 pub pass_cases : (s : Setting) (r : ℕ → ℕ → ℕ) (b : ℕ → ℕ → ℤ) (p : Pair) (ps : List Pair) (P : Passed → Type 0) →

@@ -1,14 +1,12 @@
 -- The queue, and settle as a relation.
-use Rattle.std.proofs.Common.{◌≡◌, ℕ, zero, suc, ◌+◌, ◌<◌, ◌≤◌, Bool, true, false, cond, not, ◌⊎◌, List, [], ◌∷◌, ◌++◌, length, ℤ, Some, None, Option, sym, refl, ap, ◌∙◌, subst, inl, inr, arith}
+use Rattle.std.proofs.Common.{◌≡◌, ℕ, zero, suc, ◌≤◌, Bool, true, false, cond, not, List, [], ◌∷◌, length, ℤ, sym, refl, ap, ◌∙◌, subst, arith}
 use Rattle.std.specs.List.{AllByRecursion as All}
 use Rattle.std.proofs.ByRecursion.{All-weaker}
-use Rattle.std.proofs.lemmas.Bool.{cases_Bool, not_from_false}
-use Rattle.rules.specs.First.{First, Never}
 use Rattle.rules.specs.Pairs.{Pair, after_pair}
 use Rattle.rules.specs.Setting.{Setting, Orders, placed, queued, InOrder, Numbered}
-use Rattle.rules.specs.Tests.{Stop, failures, stops}
-use Rattle.rules.specs.Settle.{Passed, pass, Settled, passes, passes_by, settle_all}
-use Rattle.rules.specs.Settling.{Pass, over, moves, waits, Passes, last, again, Settles, counted, SamePairs, QueueIsInOrder, SettleIsPassesUntilOneSettlesNothing}
+use Rattle.rules.specs.Tests.{failures, stops}
+use Rattle.rules.specs.Settle.{pass, passes, passes_by}
+use Rattle.rules.specs.Settling.{Pass, over, moves, waits, last, again, Settles, counted, SamePairs, QueueIsInOrder, SettleIsPassesUntilOneSettlesNothing}
 use Rattle.rules.proofs.Firsts.{first_none, first_some}
 use Rattle.rules.proofs.Pass.{pass_cases, pass-length}
 

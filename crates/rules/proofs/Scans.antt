@@ -1,5 +1,5 @@
 -- A loop that looks for a number that passes a test.
-use Rattle.std.proofs.Common.{◌≡◌, ℕ, zero, suc, ◌+◌, ◌<◌, Bool, true, false, ◌||◌, sym, refl, inl, inr, ⊎_elim, add-one, arith}
+use Rattle.std.proofs.Common.{◌≡◌, ℕ, zero, suc, ◌+◌, ◌<◌, Bool, true, false, sym, ⊎_elim, add-one, arith}
 use Rattle.std.proofs.lemmas.Bool.{or_from, or_left, or_right, cases_eq, cases_Bool, both_ways, or_cases, false≢true}
 use Rattle.rules.specs.Below.{some_below}
 

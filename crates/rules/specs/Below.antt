@@ -1,5 +1,5 @@
 -- The numbers below n.
-use Rattle.std.specs.Prelude.{ℕ, zero, suc, Bool, true, false, cond, ◌||◌, List, [], ◌∷◌, ◌++◌, ◌==◌}
+use Rattle.std.specs.Prelude.{ℕ, zero, suc, Bool, false, cond, ◌||◌, List, [], ◌∷◌, ◌++◌, ◌==◌}
 
 -- some number below n passes the test
 abbrev pub some_below : ℕ → (ℕ → Bool) → Bool

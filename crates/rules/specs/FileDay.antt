@@ -14,7 +14,7 @@ use Rattle.rules.specs.Setting.{Setting}
 use Rattle.rules.specs.Calls as calls
 use Rattle.rules.specs.Books.{Books, opened}
 use Rattle.rules.specs.Calls.{Answer, Step, respond}
-use Rattle.rules.specs.FileForm.{currencies_in, members_in, instructions_in, steps_in, form_refusal}
+use Rattle.rules.specs.FileForm.{currencies_in, members_in, instructions_in, form_refusal}
 use Rattle.rules.specs.FileRecords.{MemberRecord, FileStep, pay_in, clock, settle, pay_out, currency_in, member_in, instruction_in, step_in}
 
 -- the first of two refusals, if there is any

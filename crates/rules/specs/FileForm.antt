@@ -1,5 +1,5 @@
 -- The form of a day file: its counts, where its records stand, and what is wrong with it, if anything is.
-use Rattle.std.specs.Prelude.{ℕ, ◌+◌, ◌*◌, Bool, not, ◌&&◌, ◌||◌, List, [], ◌∷◌, ◌++◌, length, None, Option, ◌==◌, nat_le, nat_lt, slice_index}
+use Rattle.std.specs.Prelude.{ℕ, ◌+◌, ◌*◌, Bool, not, ◌&&◌, ◌||◌, List, ◌∷◌, length, None, Option, ◌==◌, nat_le, nat_lt, slice_index}
 use Rattle.rules.specs.Bounds.{most_currencies, most_members, most_instructions}
 use Rattle.rules.specs.First.{Case, first_of}
 use Rattle.rules.specs.Below.{listed}

@@ -1,5 +1,5 @@
 -- The records of a day file, as what they say.
-use Rattle.std.specs.Prelude.{ℕ, zero, suc, ◌+◌, ◌-◌, ◌*◌, cond, List, length, take, drop, Some, None, Option, ◌==◌, nat_lt}
+use Rattle.std.specs.Prelude.{ℕ, zero, suc, ◌+◌, ◌-◌, ◌*◌, cond, List, length, take, drop, ◌==◌, nat_lt}
 use Rattle.rules.specs.Below.{listed}
 use Rattle.rules.specs.Sheet.{Currency}
 use Rattle.rules.specs.Matching.{Instruction}

@@ -1,5 +1,5 @@
 -- Instructions, and how they are matched into pairs.
-use Rattle.std.specs.Prelude.{ℕ, ◌+◌, ◌*◌, Bool, true, false, cond, not, ◌&&◌, ◌||◌, List, [], ◌∷◌, Some, None, ◌==◌, nat_le, nat_lt}
+use Rattle.std.specs.Prelude.{ℕ, ◌+◌, ◌*◌, Bool, cond, not, ◌&&◌, ◌||◌, List, [], ◌∷◌, Some, ◌==◌, nat_le, nat_lt}
 use Rattle.rules.specs.Bounds.{most_instructions, most_units}
 use Rattle.rules.specs.First.{Case}
 use Rattle.rules.specs.Below.{some_below, with_at}

@@ -1,5 +1,5 @@
 -- The roster of a day, and what an addition to it does.
-use Rattle.std.specs.Prelude.{ℕ, ◌+◌, Bool, true, false, not, ◌&&◌, ◌||◌, ltb, List, [], ◌∷◌, length, Some, None, ◌==◌, nat_le, nat_lt, slice_index}
+use Rattle.std.specs.Prelude.{ℕ, ◌+◌, Bool, not, ◌&&◌, ◌||◌, ltb, List, [], ◌∷◌, length, Some, None, ◌==◌, nat_le, nat_lt, slice_index}
 use Rattle.std.specs.Str.{bytes_eq}
 use Rattle.rules.specs.Bounds.{most_members, most_units, most_marks}
 use Rattle.rules.specs.First.{Case}

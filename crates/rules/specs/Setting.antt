@@ -1,5 +1,5 @@
 -- What a session begins with, and what stays through the day: the sheet, the roster, the pairs and the queue order.
-use Rattle.std.specs.Prelude.{◌≡◌, ℕ, ◌+◌, ◌<◌, Bool, true, false, cond, not, List, [], ◌∷◌, ◌≢◌}
+use Rattle.std.specs.Prelude.{◌≡◌, Bool, true, false, cond, not, List, [], ◌∷◌, ◌≢◌}
 use Rattle.std.specs.List.{AllByRecursion as All}
 use Rattle.rules.specs.Sheet.{Sheet}
 use Rattle.rules.specs.Roster.{Roster}

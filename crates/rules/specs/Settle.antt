@@ -1,5 +1,5 @@
 -- Settle: passes over the waiting pairs, in queue order.
-use Rattle.std.specs.Prelude.{ℕ, zero, suc, ◌+◌, List, [], ◌∷◌, ◌++◌, length, ℤ, Some, None, Option}
+use Rattle.std.specs.Prelude.{ℕ, zero, suc, List, [], ◌∷◌, ◌++◌, length, ℤ, Some, None, Option}
 use Rattle.rules.specs.Pairs.{Pair, after_pair}
 use Rattle.rules.specs.Setting.{Setting}
 use Rattle.rules.specs.Tests.{Stop, stops}

@@ -1,5 +1,5 @@
 -- Sums over the numbers below n, and a table that is 0 but at one place.
-use Rattle.std.specs.Prelude.{ℕ, zero, suc, ◌+◌, Bool, true, false, cond, ◌&&◌, ℤ, pos, ◌+ℤ◌, ◌==◌}
+use Rattle.std.specs.Prelude.{ℕ, zero, suc, ◌+◌, cond, ◌&&◌, ℤ, pos, ◌+ℤ◌, ◌==◌}
 
 -- f 0 + f 1 + .. + f (n - 1)
 abbrev pub total : ℕ → (ℕ → ℕ) → ℕ

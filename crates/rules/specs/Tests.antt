@@ -1,5 +1,5 @@
 -- The four tests of a pair.
-use Rattle.std.specs.Prelude.{ℕ, Bool, true, false, cond, List, [], ◌∷◌, ℤ, pos, ◌+ℤ◌, neg_ℤ, Some, None, Option, int_lt, nat_lt}
+use Rattle.std.specs.Prelude.{ℕ, List, [], ◌∷◌, ℤ, pos, ◌+ℤ◌, neg_ℤ, Some, None, Option, int_lt, nat_lt}
 use Rattle.rules.specs.Bounds.{most_units}
 use Rattle.rules.specs.First.{Case, first_of}
 use Rattle.rules.specs.Pairs.{Pair, after_pair}

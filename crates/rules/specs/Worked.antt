@@ -1,5 +1,5 @@
 -- Worked cases: one small day, with the figures that the rules give.
-use Rattle.std.specs.Prelude.{◌≡◌, ℕ, true, false, cond, List, [], ◌∷◌, ℤ, pos, neg_ℤ, Some, None, codes, Option, ◌==◌}
+use Rattle.std.specs.Prelude.{◌≡◌, ℕ, true, false, cond, [], ◌∷◌, ℤ, pos, neg_ℤ, Some, None, codes, Option, ◌==◌}
 use Rattle.rules.specs.Refusals.{session}
 use Rattle.rules.specs.Sheet.{Currency}
 use Rattle.rules.specs.Roster.{Member}
@@ -10,7 +10,7 @@ use Rattle.rules.specs.Schedule.{due}
 use Rattle.rules.specs.Worth.{adjusted}
 use Rattle.rules.specs.Tests.{Stop, fails_2, fails_4, stops}
 use Rattle.rules.specs.Books.{Books, opened}
-use Rattle.rules.specs.Calls.{Call, pay_in, settle, Answer, done, counts, refused, respond}
+use Rattle.rules.specs.Calls.{pay_in, settle, done, counts, refused, respond}
 
 -- currencies 0 and 1
 abbrev pub usd : Currency

@@ -1,5 +1,5 @@
 -- What a row of balances is worth.
-use Rattle.std.specs.Prelude.{ℕ, suc, ◌+◌, ◌-◌, ◌*◌, Bool, true, false, cond, ℤ, pos, negsuc, ◌+ℤ◌, neg_ℤ}
+use Rattle.std.specs.Prelude.{ℕ, suc, ◌+◌, ◌-◌, ◌*◌, ℤ, pos, negsuc, neg_ℤ}
 use Rattle.rules.specs.Sums.{total, total_ℤ}
 use Rattle.rules.specs.Sheet.{Sheet, Currency}
 

@@ -2,6 +2,8 @@
 //!
 //! The definitions stand in `specs/`, one subject a file, and the lemmas about them in `proofs/`.
 //! Each function here carries a theorem in its contract, so that the check asks for its proof.
+#![tactic(auto)]
+
 ghost use Rattle.rules.specs.MatchingLaws.{MatchingPairsMirrors as MatchingPairsMirrors};
 ghost use Rattle.rules.specs.Settling.{SettleIsPassesUntilOneSettlesNothing as SettleIsPasses, QueueIsInOrder as QueueIsInOrder, QueueIsTheOnlyOne as QueueIsTheOnlyOne};
 ghost use Rattle.rules.specs.Worked.{WorkedCases as WorkedCases};

@@ -1,10 +1,9 @@
 -- The sheet and the roster are such stages.
 use Rattle.std.proofs.Common.{◌≡◌, ℕ, List, [], None, refl, add-one}
 use Rattle.rules.specs.First.{first_of}
-use Rattle.rules.specs.Sheet.{Sheet, adding_causes, with_currency}
-use Rattle.rules.specs.Roster.{Roster}
+use Rattle.rules.specs.Sheet.{adding_causes, with_currency}
 use Rattle.rules.specs.FileRecords.{currency_in, member_in}
-use Rattle.rules.specs.FileDay.{sheet_after, sheet_refusal, sheet_in, with_record, member_refusal, roster_after, roster_refusal, roster_in}
+use Rattle.rules.specs.FileDay.{sheet_after, sheet_refusal, sheet_in, with_record, member_refusal, roster_after, roster_refusal}
 use Rattle.runner.proofs.Stages.{Stage}
 
 pub sheet_begun : (f : List ℕ) → (record { currencies = 0; currency = λ _. record { code = []; rate = 0; haircut = 0; instalments = 0 } } ≡ sheet_after f 0) × (sheet_refusal f 0 ≡ None)

@@ -1,8 +1,7 @@
 -- How a day ends before its instructions.
-use Rattle.std.proofs.Common.{◌≡◌, ℕ, List, Some, None, Ok, Err, sym, refl, subst}
+use Rattle.std.proofs.Common.{◌≡◌, ℕ, List, Some, None, Err, refl}
 use Rattle.rules.specs.Refusals.{Refusal}
 use Rattle.rules.specs.FileForm.{currencies_in, members_in, form_refusal}
-use Rattle.refusal.specs.Meaning.{refusal_of}
 use Rattle.rules.specs.FileDay.{sheet_refusal, roster_refusal, day_refusal}
 use Rattle.runner.specs.Ending.{SheetRead, RosterRead, Ends}
 use Rattle.runner.specs.declared.halt.Halt.{Halt}

@@ -1,5 +1,5 @@
 -- The lines of a day, one record after the other.
-use Rattle.std.proofs.Common.{◌≡◌, ℕ, ◌+◌, List, [], ◌++◌, sym, refl, ap, ◌∙◌, append_assoc, append-nil, add-one}
+use Rattle.std.proofs.Common.{◌≡◌, ℕ, ◌+◌, List, ◌++◌, sym, refl, ap, ◌∙◌, append_assoc, append-nil, add-one}
 use Rattle.rules.specs.Setting.{Setting}
 use Rattle.rules.specs.Matching.{Book}
 use Rattle.rules.specs.Books.{Books, closed}

@@ -3,13 +3,11 @@ use Rattle.std.proofs.Common.{◌≡◌, ℕ, zero, suc, ◌+◌, List, [], ◌�
 use Rattle.rules.specs.Below.{listed}
 use Rattle.rules.specs.Orders.{by_number}
 use Rattle.rules.specs.Setting.{Setting}
-use Rattle.rules.specs.Books.{Books, opened}
-use Rattle.rules.specs.Matching.{Book}
+use Rattle.rules.specs.Books.{opened}
 use Rattle.rules.specs.FileForm.{instructions_in, members_in}
 use Rattle.sheet.specs.Meaning.{sheet_of}
 use Rattle.intake.specs.declared.intake.Intake.{Intake}
 use Rattle.intake.specs.declared.roster.Roster.{Roster}
-use Rattle.intake.specs.declared.pair.Pair.{Pair}
 use Rattle.intake.specs.Rosters.{roster_of, terms_of}
 use Rattle.intake.specs.Parties.{no_pair, pair_of}
 use Rattle.intake.specs.Books.{book_of}

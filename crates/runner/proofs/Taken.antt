@@ -1,5 +1,5 @@
 -- An instruction that is not refused is kept, and prints nothing.
-use Rattle.std.proofs.Common.{◌≡◌, ℕ, List, [], ◌++◌, None, Option, sym, refl, ap, ◌∙◌, subst, append-nil}
+use Rattle.std.proofs.Common.{◌≡◌, ℕ, List, ◌++◌, None, Option, sym, ap, ◌∙◌, subst, append-nil}
 use Rattle.rules.specs.First.{first_of}
 use Rattle.rules.specs.Refusals.{Refusal}
 use Rattle.rules.specs.Matching.{Instruction, Terms, Book, instruction_causes, taken_in}

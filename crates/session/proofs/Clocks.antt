@@ -1,5 +1,5 @@
 -- The clock.
-use Rattle.std.proofs.Common.{◌≡◌, ℕ, ◌<◌, ◌≤◌, ltb, ◌⊎◌, [], ◌∷◌, None, sym, refl, ap, ◌∙◌, inl, inr}
+use Rattle.std.proofs.Common.{◌≡◌, ℕ, ◌<◌, ◌≤◌, ltb, ◌⊎◌, [], None, refl, inl, inr}
 use Rattle.std.proofs.lemmas.Bool.{or_left, or_right, or_from, lt-ltb, le-ltb}
 use Rattle.rules.specs.Refusals.{session}
 use Rattle.rules.specs.Setting.{Setting}

@@ -1,5 +1,5 @@
 -- The payment of a reservation: the session's own causes, the nostro's, and what it does.
-use Rattle.std.proofs.Common.{◌≡◌, ℕ, ◌<◌, ◌≤◌, true, ltb, List, [], ◌∷◌, Some, None, refl, ◌∙◌}
+use Rattle.std.proofs.Common.{◌≡◌, ◌<◌, ◌≤◌, true, ltb, List, [], ◌∷◌, Some, None, refl, ◌∙◌}
 use Rattle.std.proofs.lemmas.Bool.{lt-ltb, le-ltb}
 use Rattle.rules.specs.First.{Case, first_of}
 use Rattle.rules.specs.Refusals.{Refusal, nostro}

@@ -1,4 +1,6 @@
 //! A session: one settlement day from its opening to its close.
+#![tactic(auto)]
+
 mod calls;
 mod closed;
 mod closing;

@@ -1,4 +1,6 @@
 //! Reads one day file from standard input, and writes the text for it to standard output.
+#![tactic(auto)]
+
 ghost use Rattle.std.specs.Prelude.{◌≤◌, length, IfOk};
 
 use runner::run;

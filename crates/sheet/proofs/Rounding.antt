@@ -1,5 +1,5 @@
 -- An instalment, rounded up, is at most the whole.
-use Rattle.std.proofs.Common.{◌≡◌, ℕ, suc, ◌+◌, ◌-◌, ◌*◌, ◌/◌, ◌<◌, ◌≤◌, min, suc-mul, mul-le-mul_left, arith}
+use Rattle.std.proofs.Common.{ℕ, suc, ◌+◌, ◌-◌, ◌*◌, ◌<◌, ◌≤◌, suc-mul, arith}
 use Rattle.std.proofs.lemmas.Nat.{div_below, mul-le}
 use Rattle.rules.specs.Schedule.{rounded_up}
 

@@ -1,5 +1,5 @@
 -- What a sheet means in the terms of the rules.
-use Rattle.std.specs.Prelude.{ℕ, vec_items, vec_len, slice_index_or}
+use Rattle.std.specs.Prelude.{vec_items, vec_len, slice_index_or}
 use Rattle.rules.specs.Sheet as rules
 use Rattle.sheet.specs.declared.currency.Currency.{Currency}
 use Rattle.sheet.specs.declared.sheet.Sheet.{Sheet}

@@ -1,4 +1,6 @@
 //! The rate sheet of a day: its currencies, each with a rate, a haircut and a number of instalments.
+#![tactic(auto)]
+
 mod adding;
 mod balances;
 mod bounds;

@@ -1,4 +1,6 @@
 //! Small days: day files given record by record, each beside the text that is printed for it.
+#![tactic(auto)]
+
 mod day;
 mod due;
 mod form;

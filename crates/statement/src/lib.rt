@@ -1,4 +1,6 @@
 //! The text of a member's statement and of a refusal, written into a caller's buffer. Nothing is allocated.
+#![tactic(auto)]
+
 mod entry;
 mod refusing;
 mod statement;

@@ -1,4 +1,6 @@
 //! Writes the worked day, from its records, to standard output.
+#![tactic(auto)]
+
 use anyhow::anyhow;
 use dayfile::{CurrencyRecord, InstructionRecord, StepRecord};
 use daywriter::{DayRecords, NewMember};

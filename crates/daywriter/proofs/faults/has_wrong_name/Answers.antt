@@ -4,8 +4,8 @@ use Rattle.rules.specs.FileWriting.{name_wrong}
 use Rattle.daywriter.proofs.Faultless.{look_more, look_found, look_all}
 use Rattle.daywriter.proofs.faults.has_wrong_name.Goals as goal
 
-pub returns-then-is-wrong-name : goal.returns-then-is-wrong-name
-returns-then-is-wrong-name c = search (rules, look_found name_wrong member_of)
+pub returns-then-is_wrong_name : goal.returns-then-is_wrong_name
+returns-then-is_wrong_name c = search (rules, look_found name_wrong member_of)
 
 pub loop-m-preserved : goal.loop-m-preserved
 loop-m-preserved c = search (rules, look_more name_wrong member_of)

@@ -6,4 +6,4 @@ pub loop-preserved : goal.loop-preserved
 loop-preserved c = (search (rules, space_put), omega arith)
 
 pub returns : goal.returns
-returns c = name_put (vec_items c.args.out.now) c.args.name.now (vec_items c.extend-from-slice.new.self) (vec_items c.loop.out) c.loop.counter (omega arith) c.in-ok-extend-from-slice.ensures.items c.loop.invariant.0
+returns c = name_put (vec_items c.args.out.now) c.args.name.now (vec_items c.extend_from_slice.new.self) (vec_items c.loop.out) c.loop.counter (omega arith) c.in_ok-extend_from_slice.ensures.items c.loop.invariant.0

@@ -1,4 +1,4 @@
-use Rattle.std.proofs.Common.{◌≡◌, length, sym, ◌∙◌, ⊎_elim, rules}
+use Rattle.std.proofs.Common.{length, sym, ◌∙◌, ⊎_elim, rules}
 use Rattle.std.proofs.lemmas.List.{get_or_past}
 use Rattle.std.proofs.lemmas.Bool.{cases_lt}
 use Rattle.intake.proofs.shorts.by_currency.Goals as goal

@@ -11,7 +11,7 @@ loop-k-preserved c =
     let l : c.loop-k.k < length ps = search rules in
     let t = left_more (own_pairs c.args.m) ps c.loop-k.k l in
     let v = c.share-count.ensures.value in
-    let e = ap (λ (p : Pair). own c.args.m (pair_of p)) c.pair-at.ensures in
+    let e = ap (λ (p : Pair). own c.args.m (pair_of p)) c.pair_at.ensures in
     (omega (arith, c.loop-k.invariant.0), omega (arith, c.loop-k.invariant.1, c.share-count.ensures.bound))
 
 pub returns : goal.returns

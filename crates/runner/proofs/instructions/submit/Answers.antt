@@ -1,4 +1,4 @@
-use Rattle.std.proofs.Common.{◌≡◌, vec_items, ◌∙◌}
+use Rattle.std.proofs.Common.{vec_items, ◌∙◌}
 use Rattle.intake.specs.Rosters.{terms_of}
 use Rattle.intake.specs.Books.{instruction_of, book_of}
 use Rattle.runner.proofs.Taken.{kept}

@@ -14,7 +14,7 @@ loop-c-init c =
     let x = c.args.ledger.now in
     let v : c.index.result.now ≡ get_or (vec_items x.accounts.members) c.args.member no_member = search (rules, get_or_read) in
     let n = ap (λ (m : Member). name_of m.name) v in
-    (c.begin-text.ensures.entries, c.begin-text.ensures.whole c.as-bytes.ensures.short ∙ ap member_line (c.as-bytes.ensures.value ∙ n) ∙ lines_none _ (entry_of (setting_by (λ p q. false) x) (books_within x) c.args.member))
+    (c.begin-text.ensures.entries, c.begin-text.ensures.whole c.as_bytes.ensures.short ∙ ap member_line (c.as_bytes.ensures.value ∙ n) ∙ lines_none _ (entry_of (setting_by (λ p q. false) x) (books_within x) c.args.member))
 
 pub loop-c-preserved : goal.loop-c-preserved
 loop-c-preserved c =

@@ -1,4 +1,4 @@
-use Rattle.std.proofs.Common.{◌≡◌, ℤ, pos, ◌+ℤ◌, ◌-ℤ◌, sym, refl, ap, ◌∙◌, arith}
+use Rattle.std.proofs.Common.{◌≡◌, pos, ◌+ℤ◌, refl, ap, ◌∙◌, arith}
 use borrow.Author.Differences.{ints}
 use Rattle.book.specs.declared.position.Position.{Position}
 use Rattle.book.specs.Rows.{position}

@@ -5,4 +5,4 @@ use Rattle.accounts.proofs.Rows.{stops_by_rows}
 use Rattle.accounts.proofs.accounts.Accounts.stopped_by.Goals as goal
 
 pub returns : goal.returns
-returns c = c.first-failing.ensures ∙ stops_by_rows (account c.args.self.now) (pair_of c.args.p.now) c.args.p.now.matched.0 (setting_within c.args.self.now) (reserve_of c.args.self.now)
+returns c = c.first_failing.ensures ∙ stops_by_rows (account c.args.self.now) (pair_of c.args.p.now) c.args.p.now.matched.0 (setting_within c.args.self.now) (reserve_of c.args.self.now)

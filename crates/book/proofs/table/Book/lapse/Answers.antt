@@ -5,8 +5,8 @@ use Rattle.book.proofs.table.Book.lapse.Goals as goal
 pub loop-m-preserved : goal.loop-m-preserved
 loop-m-preserved c =
     let i = c.loop-m.invariant in
-    let r = c.lapse-row.ensures in
-    (r.len ∙ i.0, row_lapsed c.args.self.now c.loop-m.self c.loop-m.m i.1 i.2 c.lapse-row.new.self r.row r.others, λ q l. r.others q (λ e. omega arith) ∙ i.2 q (omega arith))
+    let r = c.lapse_row.ensures in
+    (r.len ∙ i.0, row_lapsed c.args.self.now c.loop-m.self c.loop-m.m i.1 i.2 c.lapse_row.new.self r.row r.others, λ q l. r.others q (λ e. omega arith) ∙ i.2 q (omega arith))
 
 pub returns : goal.returns
 returns c =

@@ -1,19 +1,19 @@
-use Rattle.std.proofs.Common.{arith, rules}
+use Rattle.std.proofs.Common.{arith}
 use Rattle.rules.specs.FileForm.{form_refusal}
 use Rattle.std.proofs.lemmas.Bool.Decides.{nat_tests}
 use Rattle.dayfile.proofs.dayfile.DayFile.read.Goals as goal
 
-pub returns-then-file-lt-COUNTS-SIZE : goal.returns-then-file-lt-COUNTS-SIZE
+pub returns-then-file-lt-COUNTS_SIZE : goal.returns-then-file-lt-COUNTS_SIZE
 unfolding form_refusal
-returns-then-file-lt-COUNTS-SIZE c = grind (arith, nat_tests)
+returns-then-file-lt-COUNTS_SIZE c = grind (arith, nat_tests)
 
-pub returns-then-has-too-many : goal.returns-then-has-too-many
+pub returns-then-has_too_many : goal.returns-then-has_too_many
 unfolding form_refusal
-returns-then-has-too-many c = grind (arith, nat_tests)
+returns-then-has_too_many c = grind (arith, nat_tests)
 
-pub returns-then-file-step-offset : goal.returns-then-file-step-offset
+pub returns-then-file-step_offset : goal.returns-then-file-step_offset
 unfolding form_refusal
-returns-then-file-step-offset c = grind (arith, nat_tests)
+returns-then-file-step_offset c = grind (arith, nat_tests)
 
 pub returns-in-Some : goal.returns-in-Some
 unfolding form_refusal

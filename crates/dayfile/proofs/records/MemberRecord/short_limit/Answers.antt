@@ -1,4 +1,4 @@
-use Rattle.std.proofs.Common.{arith, rules}
+use Rattle.std.proofs.Common.{rules}
 use Rattle.dayfile.proofs.Listed.{length_listed, get_or-listed}
 use Rattle.dayfile.proofs.records.MemberRecord.short_limit.Goals as goal
 

@@ -5,27 +5,27 @@ use Rattle.dayfile.specs.Meaning.{currency_of}
 use Rattle.daywriter.specs.Meaning.{member_of}
 use Rattle.daywriter.proofs.records.DayRecords.fault.Goals as goal
 
-pub returns-then-has-too-many : goal.returns-then-has-too-many
+pub returns-then-has_too_many : goal.returns-then-has_too_many
 unfolding writing_fault
-returns-then-has-too-many c = simp (sym c.if-has-too-many.ensures)
+returns-then-has_too_many c = simp (sym c.if-has_too_many.ensures)
 
-pub returns-then-has-wrong-code : goal.returns-then-has-wrong-code
+pub returns-then-has_wrong_code : goal.returns-then-has_wrong_code
 unfolding writing_fault
-returns-then-has-wrong-code c = simp (sym c.if-has-too-many.ensures, sym c.if-has-wrong-code.ensures)
+returns-then-has_wrong_code c = simp (sym c.if-has_too_many.ensures, sym c.if-has_wrong_code.ensures)
 
-pub returns-then-has-wrong-name : goal.returns-then-has-wrong-name
+pub returns-then-has_wrong_name : goal.returns-then-has_wrong_name
 unfolding writing_fault
-returns-then-has-wrong-name c = simp (sym c.if-has-too-many.ensures, sym c.if-has-wrong-code.ensures, sym c.if-has-wrong-name.ensures)
+returns-then-has_wrong_name c = simp (sym c.if-has_too_many.ensures, sym c.if-has_wrong_code.ensures, sym c.if-has_wrong_name.ensures)
 
 -- there are as many currencies as records of them
-pub returns-then-has-wrong-shorts : goal.returns-then-has-wrong-shorts
+pub returns-then-has_wrong_shorts : goal.returns-then-has_wrong_shorts
 unfolding writing_fault
-returns-then-has-wrong-shorts c =
-    let shorts = ap (λ (n : ℕ). some_of (shorts_wrong n) (map member_of c.args.self.members.now)) (length-map c.args.self.currencies.now currency_of) ∙ sym c.if-has-wrong-shorts.ensures in
-    simp (sym c.if-has-too-many.ensures, sym c.if-has-wrong-code.ensures, sym c.if-has-wrong-name.ensures, shorts)
+returns-then-has_wrong_shorts c =
+    let shorts = ap (λ (n : ℕ). some_of (shorts_wrong n) (map member_of c.args.self.members.now)) (length-map c.args.self.currencies.now currency_of) ∙ sym c.if-has_wrong_shorts.ensures in
+    simp (sym c.if-has_too_many.ensures, sym c.if-has_wrong_code.ensures, sym c.if-has_wrong_name.ensures, shorts)
 
 pub returns : goal.returns
 unfolding writing_fault
 returns c =
-    let shorts = ap (λ (n : ℕ). some_of (shorts_wrong n) (map member_of c.args.self.members.now)) (length-map c.args.self.currencies.now currency_of) ∙ sym c.if-has-wrong-shorts.ensures in
-    simp (sym c.if-has-too-many.ensures, sym c.if-has-wrong-code.ensures, sym c.if-has-wrong-name.ensures, shorts)
+    let shorts = ap (λ (n : ℕ). some_of (shorts_wrong n) (map member_of c.args.self.members.now)) (length-map c.args.self.currencies.now currency_of) ∙ sym c.if-has_wrong_shorts.ensures in
+    simp (sym c.if-has_too_many.ensures, sym c.if-has_wrong_code.ensures, sym c.if-has_wrong_name.ensures, shorts)

@@ -9,12 +9,12 @@ use Rattle.daywriter.proofs.records.DayRecords.put_records.Goals as goal
 pub returns : goal.returns
 returns c =
     let self = c.args.self in
-    let cs = c.in-ok-put-all.ensures in
-    let ms = c.in-ok-put-all-2.ensures in
-    let xs = c.in-ok-put-all-3.ensures in
-    let ss = c.in-ok-put-all-4.ensures in (
-      day_put self (vec_items c.args.out.now) (vec_items c.put-counts.new.out) (vec_items c.put-all.new.out) (vec_items c.put-all-2.new.out) (vec_items c.put-all-3.new.out) (vec_items c.put-all-4.new.out)
-          c.in-ok-put-counts.ensures cs.0 ms.0 xs.0 ss.0,
+    let cs = c.in_ok-put_all.ensures in
+    let ms = c.in_ok-put_all-2.ensures in
+    let xs = c.in_ok-put_all-3.ensures in
+    let ss = c.in_ok-put_all-4.ensures in (
+      day_put self (vec_items c.args.out.now) (vec_items c.put_counts.new.out) (vec_items c.put_all.new.out) (vec_items c.put_all-2.new.out) (vec_items c.put_all-3.new.out) (vec_items c.put_all-4.new.out)
+          c.in_ok-put_counts.ensures cs.0 ms.0 xs.0 ss.0,
       record {
         currencies = All-map CurrencyFits currency_of self.currencies.now cs.1;
         members = All-map MemberFits member_of self.members.now ms.1;

@@ -8,6 +8,6 @@ pub returns-in-Ok : goal.returns-in-Ok
 returns-in-Ok c =
     let day = day_of c.args.self in
     let put = c.in-Ok.ensures in
-    let bytes : vec_items c.put-records.new.out ≡ day_bytes day = simp c.new-out.ensures.items at put.0 in
-    let none = c.in-default.ensures in
+    let bytes : vec_items c.put_records.new.out ≡ day_bytes day = simp c.new-out.ensures.items at put.0 in
+    let none = c.in_default.ensures in
     (none, bytes, rw bytes (written_reads_back day none put.1))

@@ -1,4 +1,3 @@
-use Rattle.std.proofs.Common.{rules}
 use Rattle.intake.proofs.Additions.{name_fits}
 use Rattle.intake.proofs.member.Member.of.Goals as goal
 

@@ -1,4 +1,4 @@
-use Rattle.std.proofs.Common.{◌≡◌, ◌<◌, ◌≤◌, length, get_or, vec_items, sym, refl, ap, ◌∙◌, arith, rules}
+use Rattle.std.proofs.Common.{◌≡◌, ◌<◌, ◌≤◌, length, get_or, vec_items, sym, ap, ◌∙◌, rules}
 use borrow.Author.Rules.{get_or_read}
 use Rattle.intake.specs.declared.pair.Pair.{Pair}
 use Rattle.intake.specs.Parties.{no_pair}

@@ -1,6 +1,5 @@
-use Rattle.std.proofs.Common.{◌≡◌, ◌<◌, ◌≤◌, map, length, vec_items, sym, refl, ap, ◌∙◌, arith, rules}
+use Rattle.std.proofs.Common.{◌<◌, ◌≤◌, map, length, vec_items, ap, ◌∙◌, arith, rules}
 use Rattle.intake.specs.Parties.{pair_of}
-use Rattle.ledger.specs.Turns.{Leaves}
 use Rattle.ledger.proofs.Filter.{turned, over, comes_over}
 use Rattle.ledger.proofs.ledger.Ledger.pass.Goals as goal
 

@@ -1,4 +1,4 @@
-use Rattle.std.proofs.Common.{◌≡◌, ℕ, ◌+◌, ◌^◌, ◌<◌, ◌≤◌, length, vec_items, sym, refl, ap, ◌∙◌, subst, arith, rules}
+use Rattle.std.proofs.Common.{◌≡◌, ℕ, ◌+◌, ◌^◌, ◌<◌, length, vec_items, sym, ap, subst, arith, rules}
 use Rattle.std.proofs.lemmas.List.{length-map}
 use Rattle.rules.proofs.Pass.{pass-length}
 use Rattle.ledger.specs.declared.ledger.Ledger.{Ledger}
@@ -15,11 +15,11 @@ small x = let e = length-map (vec_items x.waiting) pair_of in omega (arith, x.wa
 parts : (x : Ledger) → length (passed x).settled + length (passed x).waiting ≡ length (queue_of x)
 parts x = pass-length (setting_within x.accounts) (reserve_of x.accounts) (account x.accounts) (queue_of x)
 
-pub overflow-add-passes : goal.overflow-add-passes
-overflow-add-passes c = let l : c.loop-self.passes < 2 ^ 63 = omega (arith, small c.args.self.now, c.loop-self.invariant.shorter, c.loop-self.invariant.fewer) in search rules
+pub overflow_add-passes : goal.overflow_add-passes
+overflow_add-passes c = let l : c.loop-self.passes < 2 ^ 63 = omega (arith, small c.args.self.now, c.loop-self.invariant.shorter, c.loop-self.invariant.fewer) in search rules
 
-pub overflow-add-settled : goal.overflow-add-settled
-overflow-add-settled c = let l : c.loop-self.settled + c.pass-more.result < 2 ^ 63 = omega (arith, small c.args.self.now, c.loop-self.invariant.shorter, parts c.loop-self.self, c.pass-more.ensures.count) in search rules
+pub overflow_add-settled : goal.overflow_add-settled
+overflow_add-settled c = let l : c.loop-self.settled + c.pass-more.result < 2 ^ 63 = omega (arith, small c.args.self.now, c.loop-self.invariant.shorter, parts c.loop-self.self, c.pass-more.ensures.count) in search rules
 
 pub loop-self-smaller : goal.loop-self-smaller
 loop-self-smaller c = let w = ap length c.pass-more.ensures.left.waits in let p = parts c.loop-self.self in let e = c.pass-more.ensures.count in omega arith

@@ -1,4 +1,4 @@
-use Rattle.std.proofs.Common.{length, vec_items}
+use Rattle.std.proofs.Common.{length}
 use Rattle.ledger.proofs.Passing.{UnderWay, queue_of}
 use Rattle.ledger.proofs.ledger.Ledger.settle.Given as goal
 

@@ -11,9 +11,9 @@ loop-k-preserved c =
     let ps = vec_items c.args.self.now.pairs in
     let l : c.loop-k.k < length ps = search rules in
     let t = left_more (λ (qs : List rules.Pair). sold qs c.args.m c.args.c) ps c.loop-k.k l in
-    let v = c.sold-by-sum.ensures.value in
-    let e = ap (λ (p : Pair). sells_by (pair_of p) c.args.m c.args.c) c.pair-at.ensures in
-    (omega (arith, c.loop-k.invariant.0), omega (arith, c.loop-k.invariant.1, c.sold-by-sum.ensures.bound))
+    let v = c.sold_by-sum.ensures.value in
+    let e = ap (λ (p : Pair). sells_by (pair_of p) c.args.m c.args.c) c.pair_at.ensures in
+    (omega (arith, c.loop-k.invariant.0), omega (arith, c.loop-k.invariant.1, c.sold_by-sum.ensures.bound))
 
 pub returns : goal.returns
 returns c =

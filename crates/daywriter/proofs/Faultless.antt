@@ -1,6 +1,6 @@
 -- Records with which nothing is wrong.
 use Rattle.std.proofs.Common.{◌≡◌, ℕ, zero, suc, ◌+◌, ◌<◌, ◌≤◌, Bool, true, false, ◌||◌, eqb, ltb, List, [], ◌∷◌, map, length, get_or, take, None, sym, refl, arith}
-use Rattle.std.specs.List.{AllByRecursion as All}
+use Rattle.std.specs.List.{AllByRecursion}
 use Rattle.std.proofs.ByRecursion.{All-weaker}
 use Rattle.std.proofs.lemmas.List.{take_all}
 use Rattle.std.proofs.lemmas.Bool.{or_parts, or_from, or_left, or_right, not-false, eqb-true}
@@ -8,19 +8,19 @@ use Rattle.std.proofs.lemmas.Bool.Decides.{nat_tests}
 use Rattle.rules.proofs.Firsts.{first_none}
 use Rattle.rules.specs.FileWriting.{DayRecords, some_of, code_wrong, name_wrong, shorts_wrong, fault_cases, writing_fault}
 
-pub all_from_none : {A : Type 0} (p : A → Bool) (xs : List A) → some_of p xs ≡ false → All (λ x. p x ≡ false) xs
+pub all_from_none : {A : Type 0} (p : A → Bool) (xs : List A) → some_of p xs ≡ false → AllByRecursion (λ x. p x ≡ false) xs
 all_from_none p [] e = tt
 all_from_none p (x ∷ xs) e = let h = or_parts (p x) (some_of p xs) e in (h.0, all_from_none p xs h.1)
 
-pub none_from_all : {A : Type 0} (p : A → Bool) (xs : List A) → All (λ x. p x ≡ false) xs → some_of p xs ≡ false
+pub none_from_all : {A : Type 0} (p : A → Bool) (xs : List A) → AllByRecursion (λ x. p x ≡ false) xs → some_of p xs ≡ false
 none_from_all p [] a = refl
 none_from_all p (x ∷ xs) a = or_from (p x) (some_of p xs) a.0 (none_from_all p xs a.1)
 
 pub record Sound (d : DayRecords) : Type 0 where
   pub few : (length d.currencies ≤ 24) × (length d.members ≤ 32) × (length d.instructions ≤ 1024) × (length d.steps ≤ 2000)
-  pub codes : All (λ c. length c.code ≡ 3) d.currencies
-  pub names : All (λ m. name_wrong m ≡ false) d.members
-  pub shorts : All (λ m. length m.shorts ≡ length d.currencies) d.members
+  pub codes : AllByRecursion (λ c. length c.code ≡ 3) d.currencies
+  pub names : AllByRecursion (λ m. name_wrong m ≡ false) d.members
+  pub shorts : AllByRecursion (λ m. length m.shorts ≡ length d.currencies) d.members
 
 few_from : (a b c e : ℕ) → (ltb 24 a || (ltb 32 b || (ltb 1024 c || ltb 2000 e))) ≡ false → (a ≤ 24) × (b ≤ 32) × (c ≤ 1024) × (e ≤ 2000)
 few_from a b c e h = grind (arith, nat_tests)

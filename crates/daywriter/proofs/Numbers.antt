@@ -1,7 +1,7 @@
 -- Numbers in bytes, the lowest byte first, at every width.
 use Rattle.std.proofs.Common.{◌≡◌, ℕ, zero, suc, ◌+◌, ◌*◌, ◌/◌, ◌%◌, ◌^◌, ◌<◌, List, [], ◌∷◌, ◌++◌, length, refl, ap, mul_assoc, one-mul, pow-suc, arith}
 use native.Mathlib.Nat.{pow-succ'}
-use Rattle.std.specs.List.{AllByRecursion as All}
+use Rattle.std.specs.List.{AllByRecursion}
 use Rattle.rules.specs.FileWriting.{number_bytes}
 
 -- the number that bytes give
@@ -19,7 +19,7 @@ unfolding number_bytes
 value_number zero n h = omega arith
 value_number (suc w) n h = let p = pow-suc 256 w in let r : n / 256 < 256 ^ w = omega arith in rw (value_number w (n / 256) r) (omega arith)
 
-pub number_value : (bs : List ℕ) → All (λ b. b < 256) bs → number_bytes (length bs) (value bs) ≡ bs
+pub number_value : (bs : List ℕ) → AllByRecursion (λ b. b < 256) bs → number_bytes (length bs) (value bs) ≡ bs
 unfolding number_bytes
 number_value [] h = refl
 number_value (b ∷ bs) h =

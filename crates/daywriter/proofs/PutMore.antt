@@ -1,6 +1,6 @@
 -- One record more, or one byte more of a number, after what is written.
 use Rattle.std.proofs.Common.{◌≡◌, ℕ, zero, suc, ◌+◌, ◌-◌, ◌/◌, ◌%◌, ◌<◌, ◌≤◌, List, [], ◌∷◌, ◌++◌, map, length, get_or, take, replicate, IfOk, Result, refl, ap, append_assoc, append-nil, arith}
-use Rattle.std.specs.List.{flat_map, AllByRecursion as All}
+use Rattle.std.specs.List.{flat_map, AllByRecursion}
 use Rattle.std.proofs.ByRecursion.{All-more}
 use Rattle.std.proofs.lemmas.List.{take_more, flat_map_more, replicate_more}
 use Rattle.std.proofs.lemmas.Result.{IfOk-weaker}
@@ -14,7 +14,7 @@ use Rattle.daywriter.specs.Meaning.{member_of, day_of}
 pub more_put : {A : Type 0} (g : A → List ℕ) (out old new : List ℕ) (xs : List A) (i : ℕ) (x : A) → i < length xs → x ≡ get_or xs i x → old ≡ out ++ flat_map g (take i xs) → new ≡ old ++ g x → new ≡ out ++ flat_map g (take (i + 1) xs)
 more_put g out old new xs i x h e o n = rw (take_more xs i x h, ← e, n, o) (flat_map_more g out (take i xs) x)
 
-pub more_fit : {A : Type 0} (P : A → Type 0) (xs : List A) (i : ℕ) (x : A) → i < length xs → x ≡ get_or xs i x → All P (take i xs) → P x → All P (take (i + 1) xs)
+pub more_fit : {A : Type 0} (P : A → Type 0) (xs : List A) (i : ℕ) (x : A) → i < length xs → x ≡ get_or xs i x → AllByRecursion P (take i xs) → P x → AllByRecursion P (take (i + 1) xs)
 more_fit P xs i x h e a p = All-more P xs i x h a (rw e at p)
 
 -- a number of which so many bytes are left to write

@@ -1,6 +1,6 @@
 -- Records that are written and read back.
 use Rattle.std.proofs.Common.{◌≡◌, ℕ, zero, suc, ◌+◌, ◌-◌, ◌*◌, ◌^◌, ◌<◌, ◌≤◌, true, false, eqb, ltb, List, [], ◌∷◌, ◌++◌, length, get_or, replicate, refl, ap, ◌∙◌, add-zero, arith, lit<}
-use Rattle.std.specs.List.{flat_map, AllByRecursion as All}
+use Rattle.std.specs.List.{flat_map, AllByRecursion}
 use Rattle.std.proofs.ByRecursion.{All-get_or}
 use Rattle.std.proofs.lemmas.List.{length-append, length-replicate, take_at, get_or_append_left, get_or-append-add, get_or-replicate}
 use Rattle.std.proofs.lemmas.Bool.{ltb-false, eqb-false, ne_eqb, or_parts}
@@ -15,7 +15,7 @@ use Rattle.daywriter.proofs.Numbers.{length_number}
 use Rattle.daywriter.proofs.Standing.{Stands, stands_left, stands_after, stands_one, stands_two, stands_four, stands_eight, stands_nth, listed_is, length_joined}
 
 -- each short limit has four bytes
-all_four : (xs : List ℕ) → All (λ x. length (number_bytes 4 x) ≡ 4) xs
+all_four : (xs : List ℕ) → AllByRecursion (λ x. length (number_bytes 4 x) ≡ 4) xs
 all_four [] = tt
 all_four (x ∷ xs) = (length_number 4 x, all_four xs)
 

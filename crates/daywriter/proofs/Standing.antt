@@ -1,6 +1,6 @@
 -- Bytes that stand at a place of a file.
 use Rattle.std.proofs.Common.{◌≡◌, ℕ, zero, suc, ◌+◌, ◌*◌, ◌^◌, ◌<◌, ◌≤◌, List, [], ◌∷◌, ◌++◌, length, get_or, take, drop, sym, refl, ap, ◌∙◌, mul-suc, arith, take-add}
-use Rattle.std.specs.List.{flat_map, AllByRecursion as All}
+use Rattle.std.specs.List.{flat_map, AllByRecursion}
 use Rattle.std.proofs.lemmas.List.{take-take, take_at, drop-take, drop-drop, drop_at, drop_more, length-append, length-drop, length-take-le, take_all, flat_map_more, same_lists}
 use Rattle.std.proofs.ByRecursion.{All-take, All-drop}
 use Rattle.rules.specs.FileForm.{byte, two_bytes, four_bytes, eight_bytes}
@@ -86,22 +86,22 @@ pub stands_eight : (f : List ℕ) (i n : ℕ) → n < 2 ^ 64 → Stands f i (num
 stands_eight f i n h s = eight_byte f i (stands_ends 8 f i n s) ∙ stands_value 8 f i n h s
 
 -- and the number that bytes give stands there
-value_stands : (w : ℕ) (f : List ℕ) (i : ℕ) → All (λ b. b < 256) f → i + w ≤ length f → Stands f i (number_bytes w (value (part f i w)))
+value_stands : (w : ℕ) (f : List ℕ) (i : ℕ) → AllByRecursion (λ b. b < 256) f → i + w ≤ length f → Stands f i (number_bytes w (value (part f i w)))
 value_stands w f i a h =
     let l = length_part f i w h in
     let e : number_bytes w (value (part f i w)) ≡ part f i w = rw l at (number_value (part f i w) (All-take (λ b. b < 256) w (drop i f) (All-drop (λ b. b < 256) i f a))) in
     rw (e, l) (h, refl)
 
-pub one_stands : (f : List ℕ) (i : ℕ) → All (λ b. b < 256) f → i + 1 ≤ length f → Stands f i (number_bytes 1 (byte f i))
+pub one_stands : (f : List ℕ) (i : ℕ) → AllByRecursion (λ b. b < 256) f → i + 1 ≤ length f → Stands f i (number_bytes 1 (byte f i))
 one_stands f i a h = rw (one_byte f i h) (value_stands 1 f i a h)
 
-pub two_stands : (f : List ℕ) (i : ℕ) → All (λ b. b < 256) f → i + 2 ≤ length f → Stands f i (number_bytes 2 (two_bytes f i))
+pub two_stands : (f : List ℕ) (i : ℕ) → AllByRecursion (λ b. b < 256) f → i + 2 ≤ length f → Stands f i (number_bytes 2 (two_bytes f i))
 two_stands f i a h = rw (two_byte f i h) (value_stands 2 f i a h)
 
-pub four_stands : (f : List ℕ) (i : ℕ) → All (λ b. b < 256) f → i + 4 ≤ length f → Stands f i (number_bytes 4 (four_bytes f i))
+pub four_stands : (f : List ℕ) (i : ℕ) → AllByRecursion (λ b. b < 256) f → i + 4 ≤ length f → Stands f i (number_bytes 4 (four_bytes f i))
 four_stands f i a h = rw (four_byte f i h) (value_stands 4 f i a h)
 
-pub eight_stands : (f : List ℕ) (i : ℕ) → All (λ b. b < 256) f → i + 8 ≤ length f → Stands f i (number_bytes 8 (eight_bytes f i))
+pub eight_stands : (f : List ℕ) (i : ℕ) → AllByRecursion (λ b. b < 256) f → i + 8 ≤ length f → Stands f i (number_bytes 8 (eight_bytes f i))
 eight_stands f i a h = rw (eight_byte f i h) (value_stands 8 f i a h)
 
 -- what follows n bytes
@@ -109,11 +109,11 @@ pub stands_after : (n : ℕ) (f : List ℕ) (i : ℕ) (xs ys : List ℕ) → len
 stands_after n f i xs ys l s = rw l at (stands_right f i xs ys s)
 
 -- records of w bytes each
-pub length_joined : {A : Type 0} (g : A → List ℕ) (w : ℕ) (xs : List A) → All (λ x. length (g x) ≡ w) xs → length (flat_map g xs) ≡ w * length xs
+pub length_joined : {A : Type 0} (g : A → List ℕ) (w : ℕ) (xs : List A) → AllByRecursion (λ x. length (g x) ≡ w) xs → length (flat_map g xs) ≡ w * length xs
 length_joined g w [] a = omega arith
 length_joined g w (x ∷ xs) a = length-append (g x) (flat_map g xs) ∙ rw (a.0, length_joined g w xs a.1, mul-suc w (length xs)) (omega arith)
 
-pub stands_nth : {A : Type 0} (g : A → List ℕ) (w : ℕ) (f : List ℕ) (i : ℕ) (xs : List A) → All (λ x. length (g x) ≡ w) xs → Stands f i (flat_map g xs) → (k : ℕ) (d : A) → k < length xs → Stands f (i + w * k) (g (get_or xs k d))
+pub stands_nth : {A : Type 0} (g : A → List ℕ) (w : ℕ) (f : List ℕ) (i : ℕ) (xs : List A) → AllByRecursion (λ x. length (g x) ≡ w) xs → Stands f i (flat_map g xs) → (k : ℕ) (d : A) → k < length xs → Stands f (i + w * k) (g (get_or xs k d))
 stands_nth g w f i [] a s k d h = absurd (omega arith)
 stands_nth g w f i (x ∷ xs) a s zero d h = let e : i + w * 0 ≡ i = omega arith in rw e (stands_left f i (g x) (flat_map g xs) s)
 stands_nth g w f i (x ∷ xs) a s (suc k) d h =

@@ -1,6 +1,6 @@
 -- A whole file that is read and written again.
 use Rattle.std.proofs.Common.{◌≡◌, ℕ, zero, suc, ◌+◌, ◌*◌, ◌^◌, ◌<◌, true, false, eqb, List, [], ◌∷◌, ◌++◌, length, take, None, sym, refl, ap, ◌∙◌, ⊎_elim, zero-add, arith, lit<}
-use Rattle.std.specs.List.{flat_map, AllByRecursion as All}
+use Rattle.std.specs.List.{flat_map, AllByRecursion}
 use Rattle.std.proofs.ByRecursion.{All-push, All-get_or}
 use Rattle.std.proofs.lemmas.List.{length-append, length-take-le, flat_map_more, get_or_past, take_all}
 use Rattle.std.proofs.lemmas.Bool.{not-false, not_from_true, eq-eqb, cases_lt, cond_both}
@@ -20,7 +20,7 @@ use Rattle.daywriter.proofs.ReadBack.{length_instruction}
 use Rattle.daywriter.proofs.WrittenAgain.{then, part_stands, name_right, currency_again, member_again, instruction_again, step_again}
 use Rattle.daywriter.proofs.Faultless.{few_counts, none_from_all}
 
-all_listed : {A : Type 0} (P : A → Type 0) (n : ℕ) (h : ℕ → A) → ((k : ℕ) → k < n → P (h k)) → All P (listed n h)
+all_listed : {A : Type 0} (P : A → Type 0) (n : ℕ) (h : ℕ → A) → ((k : ℕ) → k < n → P (h k)) → AllByRecursion P (listed n h)
 all_listed P zero h p = tt
 all_listed P (suc n) h p = All-push P (listed n h) (h n) (all_listed P n h (λ k l. p k (omega arith))) (p n (omega arith))
 
@@ -42,7 +42,7 @@ never_listed (suc n) g h k l =
     let parts = never_append (listed n g) (g n ∷ []) h in
     ⊎_elim (λ less. never_listed n g parts.0 k less) (λ last. let same : k ≡ n = omega arith in rw same parts.1.0) (cases_lt k n)
 
-module _ (f : List ℕ) (bytes : All (λ b. b < 256) f) (e : form_refusal f ≡ None) where
+module _ (f : List ℕ) (bytes : AllByRecursion (λ b. b < 256) f) (e : form_refusal f ≡ None) where
   front_bytes : List ℕ
   front_bytes = count_bytes (day_in f) ++ flat_map currency_bytes (day_in f).currencies ++ flat_map member_bytes (day_in f).members ++ flat_map instruction_bytes (day_in f).instructions
 

@@ -1,6 +1,6 @@
 -- A whole file that is written and read back.
 use Rattle.std.proofs.Common.{◌≡◌, ℕ, zero, suc, ◌+◌, ◌*◌, ◌<◌, ◌≤◌, false, List, [], ◌∷◌, ◌++◌, length, get_or, None, sym, refl, ◌∙◌, mul-le-mul, zero-add, add-one, arith}
-use Rattle.std.specs.List.{flat_map, AllByRecursion as All}
+use Rattle.std.specs.List.{flat_map, AllByRecursion}
 use Rattle.std.proofs.ByRecursion.{All-get_or, All-weaker}
 use Rattle.std.proofs.lemmas.List.{length-append}
 use Rattle.std.proofs.lemmas.Bool.{ltb-false, le-ltb, or_parts, or_from, not_from_true, eq-eqb}
@@ -27,11 +27,11 @@ pub record Laid (f : List ℕ) (d : DayRecords) : Type 0 where
   instructions_at : Stands f (8 + 10 * length d.currencies + (24 + 4 * length d.currencies) * length d.members) (flat_map instruction_bytes d.instructions)
   steps_at : Stands f (8 + 10 * length d.currencies + (24 + 4 * length d.currencies) * length d.members + 16 * length d.instructions) (flat_map step_bytes d.steps)
 
-all_of : {A : Type 0} (P : A → Type 0) → ((x : A) → P x) → (xs : List A) → All P xs
+all_of : {A : Type 0} (P : A → Type 0) → ((x : A) → P x) → (xs : List A) → AllByRecursion P xs
 all_of P h [] = tt
 all_of P h (x ∷ xs) = (h x, all_of P h xs)
 
-all_both : {A : Type 0} (P Q R : A → Type 0) → ((x : A) → P x → Q x → R x) → (xs : List A) → All P xs → All Q xs → All R xs
+all_both : {A : Type 0} (P Q R : A → Type 0) → ((x : A) → P x → Q x → R x) → (xs : List A) → AllByRecursion P xs → AllByRecursion Q xs → AllByRecursion R xs
 all_both P Q R h [] p q = tt
 all_both P Q R h (x ∷ xs) p q = (h x p.0 q.0, all_both P Q R h xs p.1 q.1)
 
@@ -45,17 +45,17 @@ room : (c m i t : ℕ) → c ≤ 24 → m ≤ 32 → i ≤ 1024 → t ≤ 2000 �
 room c m i t hc hm hi ht = let p : (24 + 4 * c) * m ≤ 120 * 32 = mul-le-mul (let q : 24 + 4 * c ≤ 120 = omega arith in q) hm in omega arith
 
 module _ (d : DayRecords) (ok : Sound d) where
-  currency_sizes : All (λ c. length (currency_bytes c) ≡ 10) d.currencies
+  currency_sizes : AllByRecursion (λ c. length (currency_bytes c) ≡ 10) d.currencies
   currency_sizes = All-weaker (λ c. length c.code ≡ 3) (λ c. length (currency_bytes c) ≡ 10) length_currency d.currencies ok.codes
 
-  member_sizes : All (λ m. length (member_bytes m) ≡ 24 + 4 * length d.currencies) d.members
+  member_sizes : AllByRecursion (λ m. length (member_bytes m) ≡ 24 + 4 * length d.currencies) d.members
   member_sizes = all_both (λ m. name_wrong m ≡ false) (λ m. length m.shorts ≡ length d.currencies) (λ m. length (member_bytes m) ≡ 24 + 4 * length d.currencies)
       (λ m w l. length_member m (length d.currencies) (ltb-false 16 (length m.name) (or_parts _ _ w).0) l) d.members ok.names ok.shorts
 
-  instruction_sizes : All (λ x. length (instruction_bytes x) ≡ 16) d.instructions
+  instruction_sizes : AllByRecursion (λ x. length (instruction_bytes x) ≡ 16) d.instructions
   instruction_sizes = all_of (λ x. length (instruction_bytes x) ≡ 16) length_instruction d.instructions
 
-  step_sizes : All (λ x. length (step_bytes x) ≡ 8) d.steps
+  step_sizes : AllByRecursion (λ x. length (step_bytes x) ≡ 8) d.steps
   step_sizes = all_of (λ x. length (step_bytes x) ≡ 8) length_step d.steps
 
   pub laid : (f : List ℕ) → Stands f 0 (day_bytes d) → Laid f d

@@ -1,6 +1,6 @@
 -- Records that are read and written again.
 use Rattle.std.proofs.Common.{◌≡◌, ℕ, zero, suc, ◌+◌, ◌-◌, ◌*◌, ◌<◌, ◌≤◌, true, false, cond, eqb, leb, List, ◌++◌, length, take, drop, replicate, sym, refl, ap, ◌∙◌, subst, ⊎_elim, add_assoc, arith}
-use Rattle.std.specs.List.{flat_map, AllByRecursion as All}
+use Rattle.std.specs.List.{flat_map, AllByRecursion}
 use Rattle.std.proofs.lemmas.List.{length-append, length-replicate, length-take-le, length-drop, take-append-drop, get_or-take, get_or-drop, get_or-replicate, get_or_past, ext_get_or}
 use Rattle.std.proofs.lemmas.Bool.{le-ltb, eqb-false, eqb-true, ne_eqb, or_from, cases_lt, cases_Bool, cases_eq, and_parts, leb-true}
 use Rattle.rules.specs.Below.{listed}
@@ -87,7 +87,7 @@ by_kind k m c h a known = ⊎_elim
     (cases_eq k 2))
     (cases_eq k 1)
 
-module _ (f : List ℕ) (bytes : All (λ b. b < 256) f) where
+module _ (f : List ℕ) (bytes : AllByRecursion (λ b. b < 256) f) where
   pub currency_again : (i : ℕ) → i + 10 ≤ length f → (length (currency_bytes (currency_from f i)) ≡ 10) × Stands f i (currency_bytes (currency_from f i))
   unfolding currency_bytes
   currency_again i h =

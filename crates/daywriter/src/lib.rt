@@ -1,7 +1,7 @@
 //! Writes day files, and carries the theorems on files that are written and read again.
 #![tactic(auto)]
 
-ghost use Rattle.rules.specs.FileAgain.{WrittenReadsBack as WrittenReadsBack, ReadIsWrittenAgain as ReadIsWrittenAgain};
+ghost use Rattle.rules.specs.FileAgain.{WrittenReadsBack, ReadIsWrittenAgain};
 
 mod faults;
 mod putting;

@@ -1,6 +1,6 @@
 //! Records and numbers, put after the bytes that are written already.
 ghost use Rattle.std.specs.Prelude.{◌≡◌, ℕ, ◌^◌, ◌<◌, List, ◌++◌, OnOk};
-ghost use Rattle.std.specs.List.{flat_map, AllByRecursion as All};
+ghost use Rattle.std.specs.List.{flat_map, AllByRecursion};
 ghost use Rattle.dayfile.specs.Meaning.{currency_of, instruction_of, step_of};
 ghost use Rattle.rules.specs.FileWriting.{number_bytes, name_bytes, currency_bytes, member_bytes, instruction_bytes, step_fields, step_bytes};
 ghost use Rattle.rules.specs.FileAgain.{CurrencyFits, MemberFits, InstructionFits, step_fits};
@@ -26,7 +26,7 @@ pub(crate) trait Put {
 
 /// Puts all records of a kind, in their order.
 pub(crate) fn put_all<T: Put>(out: &mut Vec<u8>, records: &[T]) -> Result<(), AllocError>
-    ensures { OnOk result ((out.new.items ≡ out.old.items ++ flat_map T.Put.bytes records.now) × All T.Put.fits records.now) }
+    ensures { OnOk result ((out.new.items ≡ out.old.items ++ flat_map T.Put.bytes records.now) × AllByRecursion T.Put.fits records.now) }
 {
     for x in records {
         x.put(out)?;

@@ -1,6 +1,6 @@
 ghost use Rattle.std.specs.Prelude.{◌≡◌};
 ghost use Rattle.rules.specs.Nostro.{together};
-ghost use Rattle.nostro.specs.Cash.{Received, Paid, PartsReceived as PartsReceived, PartsPaid as PartsPaid};
+ghost use Rattle.nostro.specs.Cash.{Received, Paid, PartsReceived, PartsPaid};
 
 use crate::correspondent::Nostro;
 use crate::refusing::{MOST_CASH, refused};

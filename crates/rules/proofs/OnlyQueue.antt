@@ -1,6 +1,6 @@
 -- Two lists of the same pairs that are both in order are one list.
 use Rattle.std.proofs.Common.{◌≡◌, ℕ, ◌≤◌, Bool, true, false, cond, ◌&&◌, eqb, ◌⊎◌, List, [], ◌∷◌, sym, refl, ap, ◌∙◌, subst, inl, inr, arith}
-use Rattle.std.specs.List.{AllByRecursion as All}
+use Rattle.std.specs.List.{AllByRecursion}
 use Rattle.std.proofs.lemmas.Bool.{eqb-true, eq-eqb, and_parts, and_from}
 use Rattle.rules.specs.Pairs.{Pair}
 use Rattle.rules.specs.Setting.{Orders, InOrder}
@@ -11,7 +11,7 @@ abbrev agree : List (Pair → ℕ) → Pair → Pair → Bool
 agree [] p q = true
 agree (f ∷ fs) p q = eqb (f p) (f q) && agree fs p q
 
-agree_all : (fs : List (Pair → ℕ)) (p q : Pair) → agree fs p q ≡ true → All (λ f. f p ≡ f q) fs
+agree_all : (fs : List (Pair → ℕ)) (p q : Pair) → agree fs p q ≡ true → AllByRecursion (λ f. f p ≡ f q) fs
 agree_all [] p q e = tt
 agree_all (f ∷ fs) p q e = (eqb-true (f p) (f q) (and_parts (eqb (f p) (f q)) (agree fs p q) e).0, agree_all fs p q (and_parts (eqb (f p) (f q)) (agree fs p q) e).1)
 
@@ -35,11 +35,11 @@ pair_is p = refl
 same_is : (p q : Pair) → same p q ≡ true → p ≡ q
 same_is p q e = go (agree_all fields p q e)
   where
-    go : All (λ f. f p ≡ f q) fields → p ≡ q
+    go : AllByRecursion (λ f. f p ≡ f q) fields → p ≡ q
     go (a, (b, (c, (d, (f, (g, (h, (i, (j, _))))))))) = let x = pair_is p in let y = pair_is q in cc
 
 -- what holds of all pairs of a list holds of one that is counted in it
-of_counted : (P : Pair → Type 0) (p : Pair) (qs : List Pair) → All P qs → 1 ≤ counted (same p) qs → P p
+of_counted : (P : Pair → Type 0) (p : Pair) (qs : List Pair) → AllByRecursion P qs → 1 ≤ counted (same p) qs → P p
 of_counted P p [] h l = absurd (omega arith)
 of_counted P p (q ∷ qs) h l = go (of_counted P p qs h.1) (same p q) refl
   where
@@ -48,7 +48,7 @@ of_counted P p (q ∷ qs) h l = go (of_counted P p qs h.1) (same p q) refl
     go later false e = later (let z : ◌≡◌ {A = ℕ} (cond (same p q) 1 0) 0 = ap (λ (b : Bool). cond b 1 0) e in omega arith)
 
 -- a pair of a list is its first, or after its first
-first_or_after : (before : Pair → Pair → Bool) (p : Pair) (ps : List Pair) (q : Pair) (qs : List Pair) → All (λ x. before q x ≡ true) qs → counted (same p) (p ∷ ps) ≡ counted (same p) (q ∷ qs) → (p ≡ q) ⊎ (before q p ≡ true)
+first_or_after : (before : Pair → Pair → Bool) (p : Pair) (ps : List Pair) (q : Pair) (qs : List Pair) → AllByRecursion (λ x. before q x ≡ true) qs → counted (same p) (p ∷ ps) ≡ counted (same p) (q ∷ qs) → (p ≡ q) ⊎ (before q p ≡ true)
 first_or_after before p ps q qs h s = go (same p q) refl
   where
     go : (t : Bool) → same p q ≡ t → (p ≡ q) ⊎ (before q p ≡ true)

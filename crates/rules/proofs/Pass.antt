@@ -1,7 +1,7 @@
 -- What a pass, and settle, leave.
 use Rattle.std.proofs.Common.{◌≡◌, ℕ, zero, suc, ◌+◌, ◌<◌, ◌≤◌, List, [], ◌∷◌, ◌++◌, length, ℤ, pos, ◌+ℤ◌, ◌-ℤ◌, Some, None, Option, refl, ap, arith}
 use borrow.Author.Differences.{ints}
-use Rattle.std.specs.List.{AllByRecursion as All}
+use Rattle.std.specs.List.{AllByRecursion}
 use Rattle.std.proofs.ByRecursion.{All-append}
 use Rattle.rules.specs.Pairs.{Pair, bought, sold, after_pair}
 use Rattle.rules.specs.Setting.{Setting}
@@ -33,10 +33,10 @@ pass-length s r b (p ∷ ps) = pass_cases s r b p ps (λ x. length x.settled + l
     (λ e. let h = pass-length s r (after_pair b p) ps in omega arith)
     (λ t e. let h = pass-length s r b ps in omega arith)
 
-pub pass_all : (s : Setting) (r : ℕ → ℕ → ℕ) (b : ℕ → ℕ → ℤ) (ws : List Pair) (P : Pair → Type 0) → All P ws → All P (pass s r b ws).settled × All P (pass s r b ws).waiting
+pub pass_all : (s : Setting) (r : ℕ → ℕ → ℕ) (b : ℕ → ℕ → ℤ) (ws : List Pair) (P : Pair → Type 0) → AllByRecursion P ws → AllByRecursion P (pass s r b ws).settled × AllByRecursion P (pass s r b ws).waiting
 unfolding pass
 pass_all s r b [] P h = (tt, tt)
-pass_all s r b (p ∷ ps) P h = pass_cases s r b p ps (λ x. All P x.settled × All P x.waiting)
+pass_all s r b (p ∷ ps) P h = pass_cases s r b p ps (λ x. AllByRecursion P x.settled × AllByRecursion P x.waiting)
     (λ e. let g = pass_all s r (after_pair b p) ps P h.1 in ((h.0, g.0), g.1))
     (λ t e. let g = pass_all s r b ps P h.1 in (g.0, (h.0, g.1)))
 
@@ -44,10 +44,10 @@ pass_all s r b (p ∷ ps) P h = pass_cases s r b p ps (λ x. All P x.settled × 
 abbrev pub Stopped : Setting → (ℕ → ℕ → ℕ) → (ℕ → ℕ → ℤ) → Pair → Type 0
 Stopped s r b p = (t : Stop) × (stops s r b p ≡ Some t)
 
-pub pass_idle : (s : Setting) (r : ℕ → ℕ → ℕ) (b : ℕ → ℕ → ℤ) (ws : List Pair) → length (pass s r b ws).settled ≡ 0 → All (Stopped s r b) ws
+pub pass_idle : (s : Setting) (r : ℕ → ℕ → ℕ) (b : ℕ → ℕ → ℤ) (ws : List Pair) → length (pass s r b ws).settled ≡ 0 → AllByRecursion (Stopped s r b) ws
 unfolding pass
 pass_idle s r b [] z = tt
-pass_idle s r b (p ∷ ps) z = pass_cases s r b p ps (λ x. length x.settled ≡ 0 → Stopped s r b p × All (Stopped s r b) ps)
+pass_idle s r b (p ∷ ps) z = pass_cases s r b p ps (λ x. length x.settled ≡ 0 → Stopped s r b p × AllByRecursion (Stopped s r b) ps)
     (λ e z. absurd (omega arith))
     (λ t e z. ((t, e), pass_idle s r b ps z)) z
 
@@ -78,10 +78,10 @@ passes_moves (suc k) s r b ws m c = passes_cases k s r b ws (λ x. x.balances m 
     let e = bought-++ (pass s r b ws).settled (passes k s r (pass s r b ws).balances (pass s r b ws).waiting).settled m c in
     omega (arith, ints))
 
-pub passes_all : (k : ℕ) (s : Setting) (r : ℕ → ℕ → ℕ) (b : ℕ → ℕ → ℤ) (ws : List Pair) (P : Pair → Type 0) → All P ws → All P (passes k s r b ws).settled × All P (passes k s r b ws).waiting
+pub passes_all : (k : ℕ) (s : Setting) (r : ℕ → ℕ → ℕ) (b : ℕ → ℕ → ℤ) (ws : List Pair) (P : Pair → Type 0) → AllByRecursion P ws → AllByRecursion P (passes k s r b ws).settled × AllByRecursion P (passes k s r b ws).waiting
 unfolding passes
 passes_all zero s r b ws P h = (tt, h)
-passes_all (suc k) s r b ws P h = passes_cases k s r b ws (λ x. All P x.settled × All P x.waiting)
+passes_all (suc k) s r b ws P h = passes_cases k s r b ws (λ x. AllByRecursion P x.settled × AllByRecursion P x.waiting)
     (λ _. (tt, h))
     (λ _.
     let g = pass_all s r b ws P h in
@@ -89,10 +89,10 @@ passes_all (suc k) s r b ws P h = passes_cases k s r b ws (λ x. All P x.settled
     (All-append P (pass s r b ws).settled (passes k s r (pass s r b ws).balances (pass s r b ws).waiting).settled g.0 q.0, q.1))
 
 -- with passes enough, everything that waits after settle is stopped
-pub passes_idle : (k : ℕ) (s : Setting) (r : ℕ → ℕ → ℕ) (b : ℕ → ℕ → ℤ) (ws : List Pair) → length ws ≤ k → All (Stopped s r (passes k s r b ws).balances) (passes k s r b ws).waiting
+pub passes_idle : (k : ℕ) (s : Setting) (r : ℕ → ℕ → ℕ) (b : ℕ → ℕ → ℤ) (ws : List Pair) → length ws ≤ k → AllByRecursion (Stopped s r (passes k s r b ws).balances) (passes k s r b ws).waiting
 unfolding passes
 passes_idle zero s r b [] l = tt
 passes_idle zero s r b (p ∷ ps) l = absurd (omega arith)
-passes_idle (suc k) s r b ws l = passes_cases k s r b ws (λ x. All (Stopped s r x.balances) x.waiting)
+passes_idle (suc k) s r b ws l = passes_cases k s r b ws (λ x. AllByRecursion (Stopped s r x.balances) x.waiting)
     (λ z. pass_idle s r b ws z)
     (λ some-settled. passes_idle k s r (pass s r b ws).balances (pass s r b ws).waiting (let h = pass-length s r b ws in omega arith))

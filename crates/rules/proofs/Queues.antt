@@ -1,6 +1,6 @@
 -- The queue, and settle as a relation.
 use Rattle.std.proofs.Common.{◌≡◌, ℕ, zero, suc, ◌≤◌, Bool, true, false, cond, not, List, [], ◌∷◌, length, ℤ, sym, refl, ap, ◌∙◌, subst, arith}
-use Rattle.std.specs.List.{AllByRecursion as All}
+use Rattle.std.specs.List.{AllByRecursion}
 use Rattle.std.proofs.ByRecursion.{All-weaker}
 use Rattle.rules.specs.Pairs.{Pair, after_pair}
 use Rattle.rules.specs.Setting.{Setting, Orders, placed, queued, InOrder, Numbered}
@@ -18,11 +18,11 @@ placed_cases before p q qs P f g = go (before p q) refl
     go true e = f e
     go false e = g e
 
-pub placed_all : (P : Pair → Type 0) (before : Pair → Pair → Bool) (p : Pair) (qs : List Pair) → P p → All P qs → All P (placed before p qs)
+pub placed_all : (P : Pair → Type 0) (before : Pair → Pair → Bool) (p : Pair) (qs : List Pair) → P p → AllByRecursion P qs → AllByRecursion P (placed before p qs)
 placed_all P before p [] h k = (h, tt)
-placed_all P before p (q ∷ qs) h k = placed_cases before p q qs (All P) (λ _. (h, k)) (λ _. (k.0, placed_all P before p qs h k.1))
+placed_all P before p (q ∷ qs) h k = placed_cases before p q qs (AllByRecursion P) (λ _. (h, k)) (λ _. (k.0, placed_all P before p qs h k.1))
 
-pub queued_all : (P : Pair → Type 0) (before : Pair → Pair → Bool) (ps : List Pair) → All P ps → All P (queued before ps)
+pub queued_all : (P : Pair → Type 0) (before : Pair → Pair → Bool) (ps : List Pair) → AllByRecursion P ps → AllByRecursion P (queued before ps)
 unfolding queued
 queued_all P before [] h = tt
 queued_all P before (p ∷ ps) h = placed_all P before p (queued before ps) h.0 (queued_all P before ps h.1)
@@ -36,7 +36,7 @@ unfolding queued
 queued_counted before [] kind = refl
 queued_counted before (p ∷ ps) kind = let h = queued_counted before ps kind in let g = placed-counted before p (queued before ps) kind in omega arith
 
-placed_order : (before : Pair → Pair → Bool) → Orders before → (p : Pair) (qs : List Pair) → All (λ q. p.number ≡ q.number → ⊥) qs → InOrder before qs → InOrder before (placed before p qs)
+placed_order : (before : Pair → Pair → Bool) → Orders before → (p : Pair) (qs : List Pair) → AllByRecursion (λ q. p.number ≡ q.number → ⊥) qs → InOrder before qs → InOrder before (placed before p qs)
 placed_order before o p [] n i = (tt, tt)
 placed_order before o p (q ∷ qs) n i = placed_cases before p q qs (InOrder before)
     (λ e. ((e, All-weaker (λ r. before q r ≡ true) (λ r. before p r ≡ true) (λ r h. o.onward p q r e h) qs i.0), i))

@@ -1,6 +1,6 @@
 -- Day files that are written and read again.
 use Rattle.std.specs.Prelude.{◌≡◌, ℕ, ◌+◌, ◌^◌, ◌<◌, Bool, cond, ◌||◌, List, ◌++◌, length, take, replicate, None, ◌==◌}
-use Rattle.std.specs.List.{flat_map, AllByRecursion as All}
+use Rattle.std.specs.List.{flat_map, AllByRecursion}
 use Rattle.rules.specs.Below.{listed}
 use Rattle.rules.specs.Sheet.{Currency}
 use Rattle.rules.specs.Matching.{Instruction}
@@ -17,7 +17,7 @@ abbrev pub CurrencyFits : Currency → Type 0
 CurrencyFits c = (c.instalments < 2 ^ 8) × (c.rate < 2 ^ 32) × (c.haircut < 2 ^ 16)
 
 abbrev pub MemberFits : MemberRecord → Type 0
-MemberFits m = (m.aggregate < 2 ^ 64) × All (λ s. s < 2 ^ 32) m.shorts
+MemberFits m = (m.aggregate < 2 ^ 64) × AllByRecursion (λ s. s < 2 ^ 32) m.shorts
 
 abbrev pub InstructionFits : Instruction → Type 0
 InstructionFits i =
@@ -31,10 +31,10 @@ step_fits settle = Unit {0}
 step_fits (pay_out m c amount) = (m < 2 ^ 8) × (c < 2 ^ 8) × (amount < 2 ^ 32)
 
 pub record Fits (d : DayRecords) : Type 0 where
-  pub currencies : All CurrencyFits d.currencies
-  pub members : All MemberFits d.members
-  pub instructions : All InstructionFits d.instructions
-  pub steps : All step_fits d.steps
+  pub currencies : AllByRecursion CurrencyFits d.currencies
+  pub members : AllByRecursion MemberFits d.members
+  pub instructions : AllByRecursion InstructionFits d.instructions
+  pub steps : AllByRecursion step_fits d.steps
 
 -- a file has the right form, and its records are these
 pub record Reads (f : List ℕ) (d : DayRecords) : Type 0 where
@@ -74,4 +74,4 @@ pub record Again (f : List ℕ) : Type 0 where
 
 -- every file of the right form is such a file
 abbrev pub ReadIsWrittenAgain : Type 0
-ReadIsWrittenAgain = (f : List ℕ) → All (λ b. b < 2 ^ 8) f → form_refusal f ≡ None → Again f
+ReadIsWrittenAgain = (f : List ℕ) → AllByRecursion (λ b. b < 2 ^ 8) f → form_refusal f ≡ None → Again f

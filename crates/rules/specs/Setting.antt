@@ -1,6 +1,6 @@
 -- What a session begins with, and what stays through the day: the sheet, the roster, the pairs and the queue order.
 use Rattle.std.specs.Prelude.{◌≡◌, Bool, true, false, cond, not, List, [], ◌∷◌, ◌≢◌}
-use Rattle.std.specs.List.{AllByRecursion as All}
+use Rattle.std.specs.List.{AllByRecursion}
 use Rattle.rules.specs.Sheet.{Sheet}
 use Rattle.rules.specs.Roster.{Roster}
 use Rattle.rules.specs.Pairs.{Pair}
@@ -23,12 +23,12 @@ queued before (p ∷ ps) = placed before p (queued before ps)
 -- each pair is before all that follow it
 abbrev pub InOrder : (Pair → Pair → Bool) → List Pair → Type 0
 InOrder before [] = Unit {0}
-InOrder before (p ∷ ps) = All (λ q. before p q ≡ true) ps × InOrder before ps
+InOrder before (p ∷ ps) = AllByRecursion (λ q. before p q ≡ true) ps × InOrder before ps
 
 -- no two have one number
 abbrev pub Numbered : List Pair → Type 0
 Numbered [] = Unit {0}
-Numbered (p ∷ ps) = All (λ q. p.number ≢ q.number) ps × Numbered ps
+Numbered (p ∷ ps) = AllByRecursion (λ q. p.number ≢ q.number) ps × Numbered ps
 
 pub record Setting : Type 0 where
   pub sheet : Sheet

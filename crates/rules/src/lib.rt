@@ -4,9 +4,9 @@
 //! Each function here carries a theorem in its contract, so that the check asks for its proof.
 #![tactic(auto)]
 
-ghost use Rattle.rules.specs.MatchingLaws.{MatchingPairsMirrors as MatchingPairsMirrors};
-ghost use Rattle.rules.specs.Settling.{SettleIsPassesUntilOneSettlesNothing as SettleIsPasses, QueueIsInOrder as QueueIsInOrder, QueueIsTheOnlyOne as QueueIsTheOnlyOne};
-ghost use Rattle.rules.specs.Worked.{WorkedCases as WorkedCases};
+ghost use Rattle.rules.specs.MatchingLaws.{MatchingPairsMirrors};
+ghost use Rattle.rules.specs.Settling.{SettleIsPassesUntilOneSettlesNothing as SettleIsPasses, QueueIsInOrder, QueueIsTheOnlyOne};
+ghost use Rattle.rules.specs.Worked.{WorkedCases};
 
 /// Settle makes passes over the waiting pairs, in queue order, until one settles nothing.
 pub fn settle_makes_passes()

@@ -11,7 +11,7 @@ mod records;
 mod repeated;
 mod roster;
 mod settling;
-mod sheet;
+mod sheets;
 mod steps;
 #[cfg(test)]
 mod tests;

@@ -8,7 +8,7 @@ use crate::records::{ALFA, BETA, EUR, USD};
 use crate::repeated::REPEATED;
 use crate::roster::ROSTER;
 use crate::settling::SETTLING;
-use crate::sheet::SHEET;
+use crate::sheets::SHEET;
 use crate::steps::STEPS;
 use crate::texts::{ALFA_QUIET, BETA_QUIET};
 use runner::run;

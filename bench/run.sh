@@ -2,17 +2,16 @@
 # How many instructions `settle_day` executes on full days, beside two programs in plain Rust: `run.sh [SEED]`, seed 1
 # where nothing is given. `plain` is tests/reference/main.rs, `direct` the same with direct.patch. All must print the
 # same text for each day, or it ends with 1. It needs rustc, patch and valgrind. $SETTLE_DAY names another program than
-# target/bin/settle_day.
+# the one that tests/engine.sh builds.
 set -eu
 cd "$(dirname "$0")/.."
 seed=${1:-1}
-engine=${SETTLE_DAY:-target/bin/settle_day}
+engine=${SETTLE_DAY:-$(tests/engine.sh)}
 out=target/bench
 runs=20
 
 fail() { printf '%s\n' "$1" >&2; exit 1; }
 
-[ -n "${SETTLE_DAY:-}" ] || rt check settle_day >&2
 rm -rf "$out"
 mkdir -p "$out"
 cp tests/reference/main.rs "$out/plain.rs"

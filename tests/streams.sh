@@ -1,10 +1,9 @@
 #!/bin/sh
 # How `settle_day` takes its input and ends: from a file, from a pipe, in parts, with nothing in it, and far too long.
-# $SETTLE_DAY names the program, target/bin/settle_day where nothing is given.
+# $SETTLE_DAY names the program; where nothing is given it is the one that tests/engine.sh builds.
 set -eu
 cd "$(dirname "$0")/.."
-engine=${SETTLE_DAY:-target/bin/settle_day}
-[ -x "$engine" ] || rt check settle_day >&2
+engine=${SETTLE_DAY:-$(tests/engine.sh)}
 work=$(mktemp -d)
 trap 'rm -rf "$work"' EXIT
 

@@ -7,10 +7,9 @@
 set -eu
 cd "$(dirname "$0")/../.."
 days=${1:-2000} seed=${2:-1} at_most=${SECONDS_AT_MOST:-60}
-engine=${SETTLE_DAY:-target/bin/settle_day}
+engine=${SETTLE_DAY:-$(tests/engine.sh)}
 out=target/reference
 
-[ -x "$engine" ] || rt check settle_day >&2
 mkdir -p "$out"
 for name in main compare; do
     if [ ! -x "$out/$name" ] || [ -n "$(find tests/reference -name '*.rs' -newer "$out/$name")" ]; then

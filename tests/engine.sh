@@ -1,13 +1,11 @@
 #!/bin/sh
 # Prints the path of `settle_day`, proved and built from the sources as they are: this takes some minutes where something
-# has changed.
+# has changed, and less than a second where nothing has. The program that is built must print the text of its own day.
 set -eu
 root=$(cd "$(dirname "$0")/.." && pwd -P)
-cd "$root"
-bin=crates/settle_day/out/settle_day
-if [ ! -x "$bin" ] || [ -n "$(find crates crates.txt -name out -prune -o -newer "$bin" -type f -print -quit)" ]; then
-    # Besides building it, the command runs the program on its own day.
-    (cd crates/settle_day && rt run) >&2
-fi
-[ -x "$bin" ] || { echo "settle_day is not built" >&2; exit 1; }
-echo "$root/$bin"
+cd "$root/crates/settle_day"
+text=$(mktemp)
+trap 'rm -f "$text"' EXIT
+rt run <stdin >"$text"
+cmp "$text" stdout >&2
+echo "$root/crates/settle_day/out/settle_day"

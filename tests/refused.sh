@@ -25,7 +25,6 @@ edited() {
 }
 
 mkdir -p "$work/day/crates/client/src"
-git init -q "$work/day"
 while IFS=: read -r name _; do
     mkdir -p "$work/day/crates/$name"
     for part in src specs; do

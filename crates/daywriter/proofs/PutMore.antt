@@ -7,7 +7,7 @@ use Rattle.std.proofs.lemmas.Result.{IfOk-weaker}
 use Rattle.dayfile.specs.declared.records.StepRecord.{StepRecord}
 use Rattle.dayfile.specs.Meaning.{currency_of, instruction_of, step_of}
 use Rattle.rules.specs.FileWriting.{number_bytes, count_bytes, currency_bytes, member_bytes, instruction_bytes, step_bytes, day_bytes}
-use Rattle.rules.specs.FileAgain.{step_fits}
+use Rattle.rules.specs.FileAgain.{StepFits}
 use Rattle.daywriter.specs.declared.records.DayRecords.{DayRecords}
 use Rattle.daywriter.specs.Meaning.{member_of, day_of}
 
@@ -38,8 +38,8 @@ pub name_put : (base name all out : List ℕ) (k : ℕ) → k - length name ≡ 
 name_put base name all out k h a o = rw (o, a, h) (append_assoc base name (replicate (16 - length name) 32))
 
 -- a step, by its kind
-pub step_put : {X Y : Type 0} (r : Result X Y) (old new bs : List ℕ) (s t : StepRecord) → s ≡ t → step_bytes (step_of t) ≡ bs → step_fits (step_of t) → IfOk r (λ _. new ≡ old ++ bs) → IfOk r (λ _. (new ≡ old ++ step_bytes (step_of s)) × step_fits (step_of s))
-step_put r old new bs s t e b f m = IfOk-weaker r (λ _. new ≡ old ++ bs) (λ _. (new ≡ old ++ step_bytes (step_of s)) × step_fits (step_of s)) (λ _ n. rw (e, b) (n, f)) m
+pub step_put : {X Y : Type 0} (r : Result X Y) (old new bs : List ℕ) (s t : StepRecord) → s ≡ t → step_bytes (step_of t) ≡ bs → StepFits (step_of t) → IfOk r (λ _. new ≡ old ++ bs) → IfOk r (λ _. (new ≡ old ++ step_bytes (step_of s)) × StepFits (step_of s))
+step_put r old new bs s t e b f m = IfOk-weaker r (λ _. new ≡ old ++ bs) (λ _. (new ≡ old ++ step_bytes (step_of s)) × StepFits (step_of s)) (λ _ n. rw (e, b) (n, f)) m
 
 -- records as they are, or as what they mean
 pub joined_map : {A B : Type 0} (of : A → B) (g : B → List ℕ) (xs : List A) → flat_map (λ x. g (of x)) xs ≡ flat_map g (map of xs)

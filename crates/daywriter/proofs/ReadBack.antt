@@ -10,7 +10,7 @@ use Rattle.rules.specs.Matching.{Instruction}
 use Rattle.rules.specs.FileForm.{byte, four_bytes, known_kind}
 use Rattle.rules.specs.FileRecords.{MemberRecord, FileStep, pay_in, clock, settle, pay_out, part, trimmed, trimmed_length, currency_from, member_from, instruction_from, step_from}
 use Rattle.rules.specs.FileWriting.{number_bytes, name_bytes, currency_bytes, member_bytes, instruction_bytes, step_fields, step_bytes, name_wrong}
-use Rattle.rules.specs.FileAgain.{CurrencyFits, MemberFits, InstructionFits, step_fits}
+use Rattle.rules.specs.FileAgain.{CurrencyFits, MemberFits, InstructionFits, StepFits}
 use Rattle.daywriter.proofs.Numbers.{length_number}
 use Rattle.daywriter.proofs.Standing.{Stands, stands_left, stands_after, stands_one, stands_two, stands_four, stands_eight, stands_nth, listed_is, length_joined}
 
@@ -154,7 +154,7 @@ fields_back f i kind m c hour amount hk hm hc hh ha s =
     )
 
 -- a step is of a known kind
-pub step_back : (f : List ℕ) (i : ℕ) (x : FileStep) → step_fits x → Stands f i (step_bytes x) → (step_from f i ≡ x) × (known_kind (byte f i) ≡ true)
+pub step_back : (f : List ℕ) (i : ℕ) (x : FileStep) → StepFits x → Stands f i (step_bytes x) → (step_from f i ≡ x) × (known_kind (byte f i) ≡ true)
 unfolding step_bytes
 step_back f i (pay_in m c amount) h s = let b = fields_back f i 1 m c 0 amount (lit< tt) h.0 h.1 (lit< tt) h.2 s in rw (b.0, b.1, b.2, b.4) (refl, refl)
 step_back f i (clock hour) h s = let b = fields_back f i 2 0 0 hour 0 (lit< tt) (lit< tt) (lit< tt) h (lit< tt) s in rw (b.0, b.3) (refl, refl)

@@ -12,7 +12,7 @@ use Rattle.rules.specs.FileRecords.{part, currency_in, member_in, instruction_in
 use Rattle.dayfile.proofs.Formed.{whole, counted, currency_ends, member_ends, instruction_ends, step_ends, shorts_count}
 use Rattle.dayfile.proofs.Listed.{length_listed}
 use Rattle.rules.specs.FileWriting.{number_bytes, currency_bytes, member_bytes, instruction_bytes, step_bytes, count_bytes, day_bytes, code_wrong, name_wrong, shorts_wrong, fault_cases, writing_fault}
-use Rattle.rules.specs.FileAgain.{day_in, CurrencyFits, MemberFits, InstructionFits, step_fits, Fits, cleared_step, cleared, Clear, ReadIsWrittenAgain}
+use Rattle.rules.specs.FileAgain.{day_in, CurrencyFits, MemberFits, InstructionFits, StepFits, Fits, cleared_step, cleared, Clear, ReadIsWrittenAgain}
 use Rattle.daywriter.proofs.WholeFile.{written_reads_back}
 use Rattle.daywriter.proofs.Numbers.{length_number}
 use Rattle.daywriter.proofs.Standing.{Stands, length_part, two_stands, nth_stand}
@@ -130,11 +130,11 @@ module _ (f : List ℕ) (bytes : AllByRecursion (λ b. b < 256) f) (e : form_ref
   eight_fits : (i : ℕ) → eight_bytes f i < 2 ^ 64
   eight_fits i = omega (arith, four_fits i, four_fits (i + 4))
 
-  step_from_fits : (i : ℕ) → step_fits (step_from f i)
+  step_from_fits : (i : ℕ) → StepFits (step_from f i)
   step_from_fits i =
-      cond_both (eqb (byte f i) 1) _ _ step_fits (λ _. (byte_fits (i + 1), byte_fits (i + 2), four_fits (i + 4))) (λ _.
-      cond_both (eqb (byte f i) 2) _ _ step_fits (λ _. byte_fits (i + 3)) (λ _.
-      cond_both (eqb (byte f i) 3) _ _ step_fits (λ _. tt) (λ _. (byte_fits (i + 1), byte_fits (i + 2), four_fits (i + 4)))))
+      cond_both (eqb (byte f i) 1) _ _ StepFits (λ _. (byte_fits (i + 1), byte_fits (i + 2), four_fits (i + 4))) (λ _.
+      cond_both (eqb (byte f i) 2) _ _ StepFits (λ _. byte_fits (i + 3)) (λ _.
+      cond_both (eqb (byte f i) 3) _ _ StepFits (λ _. tt) (λ _. (byte_fits (i + 1), byte_fits (i + 2), four_fits (i + 4)))))
 
   all_fit : Fits (day_in f)
   unfolding currency_in member_in instruction_in step_in
@@ -142,7 +142,7 @@ module _ (f : List ℕ) (bytes : AllByRecursion (λ b. b < 256) f) (e : form_ref
     currencies = all_listed CurrencyFits (currencies_in f) (currency_in f) (λ k b. let i = currency_at f k in (byte_fits (i + 3), four_fits (i + 4), two_fits (i + 8)));
     members = all_listed MemberFits (members_in f) (member_in f) (λ k b. let i = member_at f k in (eight_fits (i + 16), all_listed (λ x. x < 2 ^ 32) (currencies_in f) (λ c. four_bytes f (i + 24 + 4 * c)) (λ c b. four_fits (i + 24 + 4 * c))));
     instructions = all_listed InstructionFits (instructions_in f) (instruction_in f) (λ k b. let i = instruction_at f k in (byte_fits i, byte_fits (i + 1), byte_fits (i + 2), byte_fits (i + 3), four_fits (i + 4), four_fits (i + 8), four_fits (i + 12)));
-    steps = all_listed step_fits (steps_in f) (step_in f) (λ k b. step_from_fits (step_at f k));
+    steps = all_listed StepFits (steps_in f) (step_in f) (λ k b. step_from_fits (step_at f k));
   }
 
   -- a file whose steps are clear is as it is

@@ -10,7 +10,7 @@ use Rattle.rules.specs.FileForm.{currencies_in, members_in, instructions_in, ste
 use Rattle.rules.specs.FileRecords.{FileStep, settle, currency_in, member_in, instruction_in, step_in}
 use Rattle.dayfile.proofs.Listed.{none_more}
 use Rattle.rules.specs.FileWriting.{DayRecords, number_bytes, currency_bytes, member_bytes, instruction_bytes, step_bytes, count_bytes, day_bytes, name_wrong}
-use Rattle.rules.specs.FileAgain.{CurrencyFits, MemberFits, InstructionFits, step_fits, Fits, WrittenReadsBack}
+use Rattle.rules.specs.FileAgain.{CurrencyFits, MemberFits, InstructionFits, StepFits, Fits, WrittenReadsBack}
 use Rattle.daywriter.proofs.Numbers.{length_number}
 use Rattle.daywriter.proofs.Standing.{Stands, whole_stands, stands_left, stands_after, stands_two, stands_nth, listed_is, length_joined}
 use Rattle.daywriter.proofs.ReadBack.{length_currency, currency_back, length_member, member_back, length_instruction, instruction_back, length_step, step_back}
@@ -144,7 +144,7 @@ module _ (d : DayRecords) (ok : Sound d) where
         let at = laid f s in
         listed_is (steps_in f) (step_in f) d.steps (sym at.steps)
         (λ k x b. let in' : k < length d.steps = omega arith in
-        (step_back f (step_at f k) (get_or d.steps k x) (All-get_or step_fits d.steps k x in' fits.steps) (step_stands k x b)).0)
+        (step_back f (step_at f k) (get_or d.steps k x) (All-get_or StepFits d.steps k x in' fits.steps) (step_stands k x b)).0)
 
     as_long : (length f ≡ length (day_bytes d)) → length f ≡ step_at f (steps_in f)
     unfolding day_bytes
@@ -169,7 +169,7 @@ module _ (d : DayRecords) (ok : Sound d) where
         let complete : form_wrong f ≡ false = not_from_true _ (eq-eqb (length f) (step_at f (steps_in f)) whole) in
         let known : first_of (listed (steps_in f) (kind_cause f)) ≡ None = none_listed (steps_in f) (kind_cause f) (λ k b.
         let in' : k < length d.steps = omega arith in
-        not_from_true _ (step_back f (step_at f k) (get_or d.steps k settle) (All-get_or step_fits d.steps k settle in' fits.steps) (step_stands k settle b)).1) in
+        not_from_true _ (step_back f (step_at f k) (get_or d.steps k settle) (All-get_or StepFits d.steps k settle in' fits.steps) (step_stands k settle b)).1) in
         rw (fit, few-enough, complete, known)
 
 pub written_reads_back : WrittenReadsBack

@@ -3,7 +3,7 @@ ghost use Rattle.std.specs.Prelude.{◌≡◌, ℕ, ◌^◌, ◌<◌, List, ◌+
 ghost use Rattle.std.specs.List.{flat_map, AllByRecursion};
 ghost use Rattle.dayfile.specs.Meaning.{currency_of, instruction_of, step_of};
 ghost use Rattle.rules.specs.FileWriting.{number_bytes, name_bytes, currency_bytes, member_bytes, instruction_bytes, step_fields, step_bytes};
-ghost use Rattle.rules.specs.FileAgain.{CurrencyFits, MemberFits, InstructionFits, step_fits};
+ghost use Rattle.rules.specs.FileAgain.{CurrencyFits, MemberFits, InstructionFits, StepFits};
 ghost use Rattle.daywriter.specs.Meaning.{member_of};
 
 use crate::records::NewMember;
@@ -116,7 +116,7 @@ impl Put for InstructionRecord {
 impl Put for StepRecord {
     ghost bytes = { λ s. step_bytes (step_of s) };
 
-    ghost fits = { λ s. step_fits (step_of s) };
+    ghost fits = { λ s. StepFits (step_of s) };
 
     fn put(&self, out: &mut Vec<u8>) -> Result<(), AllocError> {
         match *self {

@@ -1,5 +1,5 @@
 -- What a pair means in the terms of the rules, and what is known of the pairs of an intake.
-use Rattle.std.specs.Prelude.{◌≡◌, ℕ, ◌+◌, ◌<◌, List, length, get_or, slice_index_or}
+use Rattle.std.specs.Prelude.{◌≡◌, ℕ, ◌+◌, ◌<◌, List, length, slice_index_or}
 use Rattle.std.proofs.Common.{lit≤, arith}
 use Rattle.rules.specs.Pairs as rules
 use Rattle.intake.specs.declared.pair.Pair.{Pair}
@@ -33,4 +33,4 @@ Listed ps members currencies = (k : ℕ) → k < length ps → Within (slice_ind
 
 -- numbered from 1 in their order
 abbrev pub Counted : List Pair → Type 0
-Counted ps = (k : ℕ) → k < length ps → (get_or ps k no_pair).number ≡ k + 1
+Counted ps = (k : ℕ) → k < length ps → (slice_index_or ps k no_pair).number ≡ k + 1

@@ -24,17 +24,17 @@ InstructionFits i =
     (i.submitter < 2 ^ 8) × (i.counterparty < 2 ^ 8) × (i.buys < 2 ^ 8) × (i.sells < 2 ^ 8)
     × (i.bought < 2 ^ 32) × (i.sold < 2 ^ 32) × (i.reference < 2 ^ 32)
 
-abbrev pub step_fits : FileStep → Type 0
-step_fits (pay_in m c amount) = (m < 2 ^ 8) × (c < 2 ^ 8) × (amount < 2 ^ 32)
-step_fits (clock hour) = hour < 2 ^ 8
-step_fits settle = Unit {0}
-step_fits (pay_out m c amount) = (m < 2 ^ 8) × (c < 2 ^ 8) × (amount < 2 ^ 32)
+abbrev pub StepFits : FileStep → Type 0
+StepFits (pay_in m c amount) = (m < 2 ^ 8) × (c < 2 ^ 8) × (amount < 2 ^ 32)
+StepFits (clock hour) = hour < 2 ^ 8
+StepFits settle = Unit {0}
+StepFits (pay_out m c amount) = (m < 2 ^ 8) × (c < 2 ^ 8) × (amount < 2 ^ 32)
 
 pub record Fits (d : DayRecords) : Type 0 where
   pub currencies : AllByRecursion CurrencyFits d.currencies
   pub members : AllByRecursion MemberFits d.members
   pub instructions : AllByRecursion InstructionFits d.instructions
-  pub steps : AllByRecursion step_fits d.steps
+  pub steps : AllByRecursion StepFits d.steps
 
 -- a file has the right form, and its records are these
 pub record Reads (f : List ℕ) (d : DayRecords) : Type 0 where

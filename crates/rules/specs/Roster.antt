@@ -1,5 +1,5 @@
 -- The roster of a day, and what an addition to it does.
-use Rattle.std.specs.Prelude.{ℕ, ◌+◌, Bool, not, ◌&&◌, ◌||◌, ltb, List, [], ◌∷◌, length, Some, None, ◌==◌, nat_le, nat_lt, slice_index}
+use Rattle.std.specs.Prelude.{ℕ, ◌+◌, Bool, not, ◌&&◌, ◌||◌, List, [], ◌∷◌, length, Some, None, ◌==◌, nat_le, nat_lt, slice_index}
 use Rattle.std.specs.Str.{bytes_eq}
 use Rattle.rules.specs.Bounds.{most_members, most_units, most_marks}
 use Rattle.rules.specs.First.{Case}
@@ -31,7 +31,7 @@ name_taken r name = some_below r.members (λ m. bytes_eq (r.member m).name name)
 
 -- a limit is above its range
 abbrev pub limits_out_of_range : List ℕ → ℕ → Bool
-limits_out_of_range shorts aggregate = nat_lt most_marks aggregate || some_below (length shorts) (λ k. ltb most_units (slice_index shorts k))
+limits_out_of_range shorts aggregate = nat_lt most_marks aggregate || some_below (length shorts) (λ k. nat_lt most_units (slice_index shorts k))
 
 -- why an addition is refused, over a sheet of n currencies: the refusal names the number that the member would have had
 abbrev pub adding_causes : ℕ → Roster → List ℕ → List ℕ → ℕ → List (Case Refusal)

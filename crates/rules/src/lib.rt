@@ -5,12 +5,12 @@
 #![tactic(auto)]
 
 ghost use Rattle.rules.specs.MatchingLaws.{MatchingPairsMirrors};
-ghost use Rattle.rules.specs.Settling.{SettleIsPassesUntilOneSettlesNothing as SettleIsPasses, QueueIsInOrder, QueueIsTheOnlyOne};
+ghost use Rattle.rules.specs.Settling.{SettleIsPassesUntilOneSettlesNothing, QueueIsInOrder, QueueIsTheOnlyOne};
 ghost use Rattle.rules.specs.Worked.{WorkedCases};
 
 /// Settle makes passes over the waiting pairs, in queue order, until one settles nothing.
 pub fn settle_makes_passes()
-    ensures { SettleIsPasses }
+    ensures { SettleIsPassesUntilOneSettlesNothing }
 {}
 
 /// Under every queue order the queue is in order and holds each pair once.

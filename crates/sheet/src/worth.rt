@@ -1,4 +1,4 @@
-ghost use Rattle.std.specs.Prelude.{◌≡◌, ℕ, ◌+◌, ◌-◌, ◌*◌, ◌<◌, ◌≤◌, Bool, get_or, ℤ, pos, if◌then◌else◌, vec_len, slice_index_or};
+ghost use Rattle.std.specs.Prelude.{◌≡◌, ℕ, ◌+◌, ◌-◌, ◌*◌, ◌<◌, ◌≤◌, Bool, ℤ, pos, if◌then◌else◌, vec_len, slice_index_or};
 ghost use Rattle.rules.specs.Worth.{adjusted, adjusted_one, short_marks, below_0};
 ghost use Rattle.sheet.specs.Ranges.{no_currency};
 ghost use Rattle.sheet.specs.Meaning.{sheet_of};
@@ -84,7 +84,7 @@ impl Sheet {
 
     fn short_at<B: Balances>(&self, row: &B, k: u8) -> Marks
         requires { k < vec_len self.now.currencies }
-        ensures value { result.0 ≡ below_0 (B.Balances.balance row.now k) * (get_or self.now.currencies.items k no_currency).rate }
+        ensures value { result.0 ≡ below_0 (B.Balances.balance row.now k) * (slice_index_or self.now.currencies.items k no_currency).rate }
         ensures bound { result.0 ≤ 400000000000000 }
     {
         self.listed(k).short_marks(row.balance(k))

@@ -1,7 +1,7 @@
 use Rattle.std.proofs.Common.{vec_items}
 use Rattle.std.proofs.ByRecursion.{All-map}
 use Rattle.dayfile.specs.Meaning.{currency_of, instruction_of, step_of}
-use Rattle.rules.specs.FileAgain.{CurrencyFits, MemberFits, InstructionFits, step_fits}
+use Rattle.rules.specs.FileAgain.{CurrencyFits, MemberFits, InstructionFits, StepFits}
 use Rattle.daywriter.specs.Meaning.{member_of}
 use Rattle.daywriter.proofs.PutMore.{day_put}
 use Rattle.daywriter.proofs.records.DayRecords.put_records.Goals as goal
@@ -19,6 +19,6 @@ returns c =
         currencies = All-map CurrencyFits currency_of self.currencies.now cs.1;
         members = All-map MemberFits member_of self.members.now ms.1;
         instructions = All-map InstructionFits instruction_of self.instructions.now xs.1;
-        steps = All-map step_fits step_of self.steps.now ss.1;
+        steps = All-map StepFits step_of self.steps.now ss.1;
       },
     )

@@ -1,66 +1,135 @@
--- A pair that nothing stops has room and cover on both rows, and its four moves are the pair's.
-use Rattle.std.proofs.Common.{◌≡◌, ℕ, ◌≤◌, ℤ, None, sym, inr, arith}
+-- A pair that nothing stops has room and cover on both rows, and its two legs are the pair's.
+use Rattle.std.proofs.Common.{◌≡◌, ℕ, eqb, ◌⊎◌, ℤ, pos, ◌+ℤ◌, neg_ℤ, ◌≤ℤ◌, ◌≤◌, List, [], ◌∷◌, get_or, vec_items, None, sym, refl, ap, ◌∙◌, subst, inl, inr, arith}
+use mathlib.Core.Path.{fun_ext}
 use borrow.Author.Differences.{ints}
-use Rattle.rules.specs.First.{Never}
-use Rattle.rules.specs.Pairs as rules
+use Rattle.std.proofs.lemmas.Bool.{cases_eq, cond-true, cond-false, eq-eqb, ne_eqb}
+use Rattle.rules.specs.Below.{with_at}
+use Rattle.rules.specs.Bounds.{most_units}
+use Rattle.rules.specs.First.{Case, Never, first_of}
 use Rattle.rules.specs.Pairs.{after_pair}
 use Rattle.rules.specs.Setting.{Setting}
-use Rattle.rules.specs.Tests.{failures, stops}
-use Rattle.rules.specs.Books.{credited, debited}
-use Rattle.rules.proofs.Sum.{only_here, only_other, only_elsewhere, same_table}
+use Rattle.rules.specs.Tests.{Stop, failures, stops, fails_1, fails_2, fails_3, fails_4}
+use Rattle.rules.proofs.Sum.{same_table}
 use Rattle.rules.proofs.Firsts.{first_none}
-use Rattle.accounts.specs.Moves.{Room, Cover}
+use Rattle.intake.specs.declared.pair.Pair.{Pair}
+use Rattle.intake.specs.Parties.{pair_of}
+use Rattle.intake.specs.Members.{no_member}
+use Rattle.accounts.specs.declared.accounts.Accounts.{Accounts}
+use Rattle.accounts.specs.declared.leg.Leg.{Leg}
+use Rattle.accounts.specs.declared.after.After.{After}
+use Rattle.accounts.specs.Meaning.{setting_within, account, reserve_of}
+use Rattle.accounts.specs.Moves.{Moves}
+use Rattle.accounts.specs.Legs.{after_leg, row_after, mirrored, tests_on}
+use Rattle.accounts.proofs.Rows.{leg_of, first_row, second_row, other_row}
 
-module _ (s : Setting) (r : ℕ → ℕ → ℕ) (b : ℕ → ℕ → ℤ) (p : rules.Pair) (apart : p.first ≡ p.second → ⊥) (other : p.buys ≡ p.sells → ⊥) (free : stops s r b p ≡ None)
-    (low-1 : (s.roster.member p.first).short p.sells ≤ 1000000000) (low-2 : (s.roster.member p.second).short p.buys ≤ 1000000000) where
-  passed : Never (failures s r b p)
+pub with_here : {A : Type 0} (f : ℕ → A) (n : ℕ) (x : A) → with_at f n x n ≡ x
+with_here f n x = cond-true (eqb n n) x (f n) (eq-eqb n n refl)
+
+pub with_else : {A : Type 0} (f : ℕ → A) (n : ℕ) (x : A) (k : ℕ) → (k ≡ n → ⊥) → with_at f n x k ≡ f k
+with_else f n x k h = cond-false (eqb k n) x (f k) (ne_eqb k n h)
+
+module _ (t : ℕ → ℕ → ℤ) (m c : ℕ) (z : ℤ) where
+  pub put_here : with_at t m (with_at (t m) c z) m c ≡ z
+  put_here = ap (λ (r : ℕ → ℤ). r c) (with_here t m (with_at (t m) c z)) ∙ with_here (t m) c z
+
+  pub put_there : (m' c' : ℕ) → (m' ≡ m → ⊥) ⊎ (c' ≡ c → ⊥) → with_at t m (with_at (t m) c z) m' c' ≡ t m' c'
+  put_there m' c' h = elim (cases_eq m' m) [
+    | inl e ↦ elim h [
+      | inl n ↦ absurd (n e)
+      | inr n ↦ subst (λ (x : ℕ). with_at t m (with_at (t m) c z) x c' ≡ t x c') (sym e) (ap (λ (r : ℕ → ℤ). r c') (with_here t m (with_at (t m) c z)) ∙ with_else (t m) c z c' n)
+    ]
+    | inr n ↦ ap (λ (r : ℕ → ℤ). r c') (with_else t m (with_at (t m) c z) m' n)
+  ]
+
+-- both currencies of a leg are put: the row is that after the leg
+pub two_puts : (t u v : ℕ → ℕ → ℤ) (m : ℕ) (l : Leg) (y z : ℤ) → (l.buys ≡ l.sells → ⊥) → y ≡ after_leg (t m) l l.buys → z ≡ after_leg (t m) l l.sells
+    → u ≡ with_at t m (with_at (t m) l.buys y) → v ≡ with_at u m (with_at (u m) l.sells z) → v ≡ with_at t m (after_leg (t m) l)
+two_puts t u v m l y z two ey ez eu ev = ev ∙ same_table _ _ (λ m' c. elim (cases_eq m' m) [
+  | inl e ↦ subst (λ (x : ℕ). with_at u m (with_at (u m) l.sells z) x c ≡ with_at t m (after_leg (t m) l) x c) (sym e) (here c ∙ sym (ap (λ (r : ℕ → ℤ). r c) (with_here t m (after_leg (t m) l))))
+  | inr n ↦ put_there u m l.sells z m' c (inl n) ∙ ap (λ (w : ℕ → ℕ → ℤ). w m' c) eu ∙ put_there t m l.buys y m' c (inl n) ∙ sym (ap (λ (r : ℕ → ℤ). r c) (with_else t m (after_leg (t m) l) m' n))
+])
+  where
+    same : (c : ℕ) → (c ≡ l.buys → ⊥) → (c ≡ l.sells → ⊥) → t m c ≡ after_leg (t m) l c
+    same c n k =
+        let a = cond-false (eqb l.buys c) l.bought.0 0 (ne_eqb l.buys c (λ q. n (sym q))) in
+        let b = cond-false (eqb l.sells c) l.sold.0 0 (ne_eqb l.sells c (λ q. k (sym q))) in
+        omega (arith, ints)
+
+    here : (c : ℕ) → with_at u m (with_at (u m) l.sells z) m c ≡ after_leg (t m) l c
+    here c = elim (cases_eq c l.sells) [
+      | inl e ↦ subst (λ (x : ℕ). with_at u m (with_at (u m) l.sells z) m x ≡ after_leg (t m) l x) (sym e) (put_here u m l.sells z ∙ ez)
+      | inr n ↦ put_there u m l.sells z m c (inr n) ∙ ap (λ (w : ℕ → ℕ → ℤ). w m c) eu ∙ elim (cases_eq c l.buys) [
+        | inl e ↦ subst (λ (x : ℕ). with_at t m (with_at (t m) l.buys y) m x ≡ after_leg (t m) l x) (sym e) (put_here t m l.buys y ∙ ey)
+        | inr k ↦ put_there t m l.buys y m c (inr k) ∙ same c k n
+      ]
+    ]
+
+by_parts : Setting → (ℕ → ℕ → ℕ) → (ℕ → ℤ) → (ℕ → ℤ) → ℕ → ℕ → Leg → Leg → List (Case Stop)
+by_parts s r x y m n l k =
+    fails_1 r (λ _. x) m l.buys ∷ fails_1 r (λ _. y) n k.buys
+    ∷ fails_2 s (λ _. x) m l.sells ∷ fails_2 s (λ _. y) n k.sells
+    ∷ fails_3 s (λ _. x) m ∷ fails_3 s (λ _. y) n
+    ∷ fails_4 s (λ _. x) m ∷ fails_4 s (λ _. y) n
+    ∷ []
+
+-- the rows after a pair are those that its tests look at
+pub stops_by_rows : (f : Accounts) (p : Pair) (x y : After) → row_after x ≡ after_leg (account f p.first) (leg_of p) → row_after y ≡ after_leg (account f p.second) (mirrored (leg_of p))
+    → x.member ≡ p.first → y.member ≡ p.second → x.leg ≡ leg_of p → y.leg ≡ mirrored (leg_of p)
+    → first_of (tests_on (setting_within f) (reserve_of f) x y) ≡ stops (setting_within f) (reserve_of f) (account f) (pair_of p)
+unfolding stops by_parts
+stops_by_rows f p x y ex ey em en el ek =
+    let row_x = ex ∙ first_row (account f) (pair_of p) p.matched.0 in
+    let row_y = ey ∙ second_row (account f) (pair_of p) p.matched.0 in
+    λ i. first_of (by_parts (setting_within f) (reserve_of f) (row_x i) (row_y i) (em i) (en i) (el i) (ek i))
+
+module _ (f : Accounts) (p : Pair) (free : stops (setting_within f) (reserve_of f) (account f) (pair_of p) ≡ None) where
+  passed : Never (failures (setting_within f) (reserve_of f) (account f) (pair_of p))
   unfolding stops
-  passed = first_none (failures s r b p) free
+  passed = first_none (failures (setting_within f) (reserve_of f) (account f) (pair_of p)) free
 
-  t1 : ℕ → ℕ → ℤ
-  t1 = credited b p.first p.buys p.bought
+  short : (m k : ℕ) → ((setting_within f).roster.member m).short k ≤ most_units
+  short m k = (get_or (vec_items f.members) m no_member).limits.limited k
 
-  abbrev t2 : ℕ → ℕ → ℤ
-  t2 = debited (credited b p.first p.buys p.bought) p.first p.sells p.sold
+  pub high_1 : (l : Leg) → l ≡ leg_of p → (after_leg (account f p.first) l l.buys +ℤ pos (reserve_of f p.first l.buys)) ≤ℤ pos most_units
+  high_1 l e = subst (λ (k : Leg). (after_leg (account f p.first) k k.buys +ℤ pos (reserve_of f p.first k.buys)) ≤ℤ pos most_units) (sym e)
+      (let r = ap (λ (t : ℕ → ℤ). t p.buys) (first_row (account f) (pair_of p) p.matched.0) in omega (arith, ints, passed.0))
 
-  abbrev t3 : ℕ → ℕ → ℤ
-  t3 = credited t2 p.second p.sells p.sold
+  pub low_1 : (l : Leg) → l ≡ leg_of p → neg_ℤ (pos most_units) ≤ℤ after_leg (account f p.first) l l.sells
+  low_1 l e = subst (λ (k : Leg). neg_ℤ (pos most_units) ≤ℤ after_leg (account f p.first) k k.sells) (sym e)
+      (let r = ap (λ (t : ℕ → ℤ). t p.sells) (first_row (account f) (pair_of p) p.matched.0) in let s = short p.first p.sells in omega (arith, ints, passed.1.1.0))
 
-  pub room_1 : Room b r p.first p.buys p.bought
-  room_1 =
-      let a = only_here p.first p.buys p.bought in
-      let c = only_other p.second p.sells p.sold p.first p.buys (λ q. apart (sym q)) in
-      let d = only_elsewhere p.first p.sells p.sold p.first p.buys (inr other) in
-      let e = only_other p.second p.buys p.bought p.first p.buys (λ q. apart (sym q)) in
-      omega (arith, ints, passed.0)
+  -- the first leg leaves the second party's row
+  module _ (f' : Accounts) (l : Leg) (e : l ≡ leg_of p) (h : Moves f f' (with_at (account f) p.first (after_leg (account f p.first) l))) where
+    kept : account f' p.second ≡ account f p.second
+    kept = ap (λ (t : ℕ → ℕ → ℤ). t p.second) h.accounts ∙ with_else (account f) p.first (after_leg (account f p.first) l) p.second (λ q. p.matched.0 (sym q))
 
-  pub cover_1 : Cover (credited b p.first p.buys p.bought) p.first p.sells p.sold
-  cover_1 =
-      let a = only_here p.first p.sells p.sold in
-      let c = only_other p.second p.sells p.sold p.first p.sells (λ q. apart (sym q)) in
-      let e = only_other p.second p.buys p.bought p.first p.sells (λ q. apart (sym q)) in
-      omega (arith, ints, passed.1.1.0)
+    pub row_2 : (k : Leg) → k ≡ mirrored l → after_leg (account f' p.second) k ≡ after_pair (account f) (pair_of p) p.second
+    row_2 k d = (λ i. after_leg (kept i) ((d ∙ ap mirrored e) i)) ∙ second_row (account f) (pair_of p) p.matched.0
 
-  pub room_2 : Room t2 r p.second p.sells p.sold
-  room_2 =
-      let a = only_here p.second p.sells p.sold in
-      let c = only_other p.first p.sells p.sold p.second p.sells apart in
-      let d = only_elsewhere p.second p.buys p.bought p.second p.sells (inr (λ q. other (sym q))) in
-      let e = only_other p.first p.buys p.bought p.second p.sells apart in
-      omega (arith, ints, passed.1.0)
+    buys_2 : (k : Leg) → k ≡ mirrored l → k.buys ≡ p.sells
+    buys_2 k d = ap (λ (x : Leg). x.buys) (d ∙ ap mirrored e)
 
-  pub cover_2 : Cover t3 p.second p.buys p.bought
-  cover_2 =
-      let a = only_here p.second p.buys p.bought in
-      let c = only_other p.first p.sells p.sold p.second p.buys apart in
-      let e = only_other p.first p.buys p.bought p.second p.buys apart in
-      omega (arith, ints, passed.1.1.1.0)
+    sells_2 : (k : Leg) → k ≡ mirrored l → k.sells ≡ p.buys
+    sells_2 k d = ap (λ (x : Leg). x.sells) (d ∙ ap mirrored e)
 
-  pub four_moves : debited t3 p.second p.buys p.bought ≡ after_pair b p
-  four_moves = same_table _ _ (λ m c. omega (arith, ints))
+    pub high_2 : (k : Leg) → k ≡ mirrored l → (after_leg (account f' p.second) k k.buys +ℤ pos (reserve_of f' p.second k.buys)) ≤ℤ pos most_units
+    high_2 k d =
+        let r : after_leg (account f' p.second) k k.buys ≡ after_pair (account f) (pair_of p) p.second p.sells = λ i. row_2 k d i (buys_2 k d i) in
+        let q : reserve_of f' p.second k.buys ≡ reserve_of f p.second p.sells = λ i. h.reserves i p.second (buys_2 k d i) in
+        omega (arith, ints, passed.1.0, r, q)
 
-pub room_at : (t t' : ℕ → ℕ → ℤ) (r r' : ℕ → ℕ → ℕ) (m c a : ℕ) → t' ≡ t → r' ≡ r → Room t r m c a → Room t' r' m c a
-room_at t t' r r' m c a e f h = rw (e, f) h
+    pub low_2 : (k : Leg) → k ≡ mirrored l → neg_ℤ (pos most_units) ≤ℤ after_leg (account f' p.second) k k.sells
+    low_2 k d =
+        let r : after_leg (account f' p.second) k k.sells ≡ after_pair (account f) (pair_of p) p.second p.buys = λ i. row_2 k d i (sells_2 k d i) in
+        let s = short p.second p.buys in
+        omega (arith, ints, passed.1.1.1.0, r)
 
-pub cover_at : (t t' : ℕ → ℕ → ℤ) (m c a : ℕ) → t' ≡ t → Cover t m c a → Cover t' m c a
-cover_at t t' m c a e h = rw e h
+    -- and both legs are the pair's
+    pub both_legs : (k : Leg) → k ≡ mirrored l → with_at (account f') p.second (after_leg (account f' p.second) k) ≡ after_pair (account f) (pair_of p)
+    both_legs k d = fun_ext (λ m. elim (cases_eq m p.second) [
+      | inl q ↦ ap (with_at (account f') p.second (after_leg (account f' p.second) k)) q ∙ with_here (account f') p.second (after_leg (account f' p.second) k) ∙ row_2 k d ∙ ap (after_pair (account f) (pair_of p)) (sym q)
+      | inr n ↦ with_else (account f') p.second (after_leg (account f' p.second) k) m n ∙ ap (λ (t : ℕ → ℕ → ℤ). t m) h.accounts ∙ elim (cases_eq m p.first) [
+        | inl q ↦ ap (with_at (account f) p.first (after_leg (account f p.first) l)) q ∙ with_here (account f) p.first (after_leg (account f p.first) l) ∙ ap (after_leg (account f p.first)) e ∙ first_row (account f) (pair_of p) p.matched.0 ∙ ap (after_pair (account f) (pair_of p)) (sym q)
+        | inr o ↦ with_else (account f) p.first (after_leg (account f p.first) l) m o ∙ other_row (account f) (pair_of p) p.matched.0 m o n
+      ]
+    ])

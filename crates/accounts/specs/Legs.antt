@@ -1,14 +1,26 @@
 -- A row after one leg, and the tests on the two rows of a pair.
-use Rattle.std.specs.Prelude.{ℕ, cond, List, [], ◌∷◌, ℤ, pos, ◌+ℤ◌, ◌-ℤ◌, neg_ℤ, Some, None, ◌==◌, int_lt, nat_lt}
-use Rattle.rules.specs.Bounds.{most_units}
+use Rattle.std.specs.Prelude.{◌≡◌, ℕ, true, false, Ok, Err, Result, cond, List, [], ◌∷◌, ℤ, pos, ◌+ℤ◌, ◌-ℤ◌, ◌==◌}
 use Rattle.rules.specs.First.{Case}
-use Rattle.rules.specs.Pairs as rules
 use Rattle.rules.specs.Setting.{Setting}
-use Rattle.rules.specs.Tests.{Stop}
-use Rattle.rules.specs.Worth.{adjusted, short_marks}
+use Rattle.rules.specs.Tests as tests
+use Rattle.rules.specs.Tests.{fails_1, fails_2, fails_3, fails_4}
+use Rattle.intake.specs.declared.pair.Pair.{Pair}
 use Rattle.book.specs.Rows.{position}
 use Rattle.accounts.specs.declared.leg.Leg.{Leg}
 use Rattle.accounts.specs.declared.after.After.{After}
+use Rattle.accounts.specs.declared.stop.Stop.{Stop}
+use Rattle.accounts.specs.Meaning.{stop_of}
+
+-- what the first party of a pair does
+pub record LegOf (p : Pair) (l : Leg) : Type 0 where
+  pub buys_is : l.buys ≡ p.buys
+  pub bought_is : l.bought ≡ p.bought
+  pub sells_is : l.sells ≡ p.sells
+  pub sold_is : l.sold ≡ p.sold
+
+-- what the other party does
+abbrev pub mirrored : Leg → Leg
+mirrored l = record { buys = l.sells; bought = l.sold; sells = l.buys; sold = l.bought; small = (l.small.1, l.small.0) }
 
 -- a at c, and 0 elsewhere
 abbrev pub at : ℕ → ℕ → ℕ → ℕ
@@ -22,14 +34,15 @@ abbrev pub row_after : After → ℕ → ℤ
 row_after x c = after_leg (λ k. (position x.book.now x.member k).account.0) x.leg c
 
 -- the tests on the rows x of the first party and y of the second, in order
-abbrev pub tests_on : Setting → (ℕ → ℕ → ℕ) → (ℕ → ℤ) → (ℕ → ℤ) → rules.Pair → List (Case Stop)
-tests_on s r x y p =
-    record { name = record { test = 1; member = p.first; currency = Some p.buys }; holds = int_lt (pos most_units) (x p.buys +ℤ pos (r p.first p.buys)) }
-    ∷ record { name = record { test = 1; member = p.second; currency = Some p.sells }; holds = int_lt (pos most_units) (y p.sells +ℤ pos (r p.second p.sells)) }
-    ∷ record { name = record { test = 2; member = p.first; currency = Some p.sells }; holds = int_lt (x p.sells) (neg_ℤ (pos ((s.roster.member p.first).short p.sells))) }
-    ∷ record { name = record { test = 2; member = p.second; currency = Some p.buys }; holds = int_lt (y p.buys) (neg_ℤ (pos ((s.roster.member p.second).short p.buys))) }
-    ∷ record { name = record { test = 3; member = p.first; currency = None }; holds = nat_lt (s.roster.member p.first).aggregate (short_marks s.sheet x) }
-    ∷ record { name = record { test = 3; member = p.second; currency = None }; holds = nat_lt (s.roster.member p.second).aggregate (short_marks s.sheet y) }
-    ∷ record { name = record { test = 4; member = p.first; currency = None }; holds = int_lt (adjusted s.sheet x) (pos 0) }
-    ∷ record { name = record { test = 4; member = p.second; currency = None }; holds = int_lt (adjusted s.sheet y) (pos 0) }
+abbrev pub tests_on : Setting → (ℕ → ℕ → ℕ) → After → After → List (Case tests.Stop)
+tests_on s r x y =
+    fails_1 r (λ _. row_after x) x.member x.leg.buys ∷ fails_1 r (λ _. row_after y) y.member y.leg.buys
+    ∷ fails_2 s (λ _. row_after x) x.member x.leg.sells ∷ fails_2 s (λ _. row_after y) y.member y.leg.sells
+    ∷ fails_3 s (λ _. row_after x) x.member ∷ fails_3 s (λ _. row_after y) y.member
+    ∷ fails_4 s (λ _. row_after x) x.member ∷ fails_4 s (λ _. row_after y) y.member
     ∷ []
+
+-- a test is passed, or the stop is that of its failure
+abbrev pub Checks : Case tests.Stop → Result Unit Stop → Type 0
+Checks x (Ok _) = x.holds ≡ false
+Checks x (Err e) = (x.holds ≡ true) × (stop_of e ≡ x.name)

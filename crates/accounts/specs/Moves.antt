@@ -1,7 +1,8 @@
 -- What becomes of the tables when accounts move.
-use Rattle.std.specs.Prelude.{◌≡◌, ℕ, ℤ, pos, ◌+ℤ◌, ◌-ℤ◌, neg_ℤ, ◌≤ℤ◌}
-use Rattle.rules.specs.Bounds.{most_units}
-use Rattle.book.specs.declared.position.Position.{Position}
+use Rattle.std.specs.Prelude.{◌≡◌, ℕ, ℤ, vec_len}
+use Rattle.sheet.specs.Meaning.{sheet_of}
+use Rattle.intake.specs.declared.pair.Pair.{Pair}
+use Rattle.intake.specs.Parties.{Within}
 use Rattle.accounts.specs.declared.accounts.Accounts.{Accounts}
 use Rattle.accounts.specs.Meaning.{account, reserve_of, ins_of, outs_of}
 
@@ -14,16 +15,6 @@ pub record Moves (old new : Accounts) (t : ℕ → ℕ → ℤ) : Type 0 where
   pub sheets : new.sheet ≡ old.sheet
   pub rosters : new.members ≡ old.members
 
--- there is room for a more at m and c, and cover for a less
-abbrev pub Room : (ℕ → ℕ → ℤ) → (ℕ → ℕ → ℕ) → ℕ → ℕ → ℕ → Type 0
-Room t r m c a = (t m c +ℤ pos (r m c) +ℤ pos a) ≤ℤ pos most_units
-
-abbrev pub Cover : (ℕ → ℕ → ℤ) → ℕ → ℕ → ℕ → Type 0
-Cover t m c a = neg_ℤ (pos most_units) ≤ℤ (t m c -ℤ pos a)
-
--- a position with another account
-pub record Shifted (p q : Position) (z : ℤ) : Type 0 where
-  pub account_is : q.account.0 ≡ z
-  pub reserved_is : q.reserved.0 ≡ p.reserved.0
-  pub in_is : q.paid_in.0 ≡ p.paid_in.0
-  pub out_is : q.paid_out.0 ≡ p.paid_out.0
+-- the parties of a pair are on the roster, and its currencies on the sheet
+abbrev pub Placed : Accounts → Pair → Type 0
+Placed x p = Within p (vec_len x.members) (sheet_of x.sheet).currencies

@@ -1,72 +1,67 @@
-ghost use Rattle.std.specs.Prelude.{◌≡◌, ℕ, ◌+◌, ◌-◌, ◌*◌, ◌<◌, ◌≤◌, true, false, ℤ, pos, ◌+ℤ◌, ◌-ℤ◌, neg_ℤ, ◌≤ℤ◌, is_some, None, vec_len};
+ghost use Rattle.std.specs.Prelude.{◌≡◌, ◌↔◌, ℕ, ◌*◌, ◌<◌, ◌≤◌, true, false, ℤ, pos, ◌+ℤ◌, neg_ℤ, ◌≤ℤ◌, is_some, None, vec_len, ◌≢◌};
+ghost use Rattle.rules.specs.Below.{with_at};
+ghost use Rattle.rules.specs.Bounds.{most_currencies, most_members, most_sum, most_units};
 ghost use Rattle.rules.specs.Pairs.{after_pair};
 ghost use Rattle.rules.specs.Sums.{total};
 ghost use Rattle.rules.specs.Tests.{stops};
-ghost use Rattle.rules.specs.Books.{credited, debited};
-ghost use Rattle.sheet.specs.Meaning.{sheet_of};
-ghost use Rattle.intake.specs.Parties.{pair_of, Within};
+ghost use Rattle.intake.specs.Parties.{pair_of};
 ghost use Rattle.accounts.specs.Meaning.{setting_within, account, reserve_of, stopped};
-ghost use Rattle.accounts.specs.Moves.{Moves, Room, Cover, Shifted};
+ghost use Rattle.accounts.specs.Moves.{Moves, Placed};
+ghost use Rattle.accounts.specs.Legs.{after_leg};
 
 use crate::accounts::Accounts;
+use crate::leg::Leg;
 use crate::stop::Stop;
-use book::Position;
 use intake::Pair;
+use sheet::Balances;
 use units::{Amount, Units};
 
-// The position with another account.
-fn shifted(p: Position, account: Units) -> Position
-    requires { (neg_ℤ (pos 1000000000) ≤ℤ account.0) × ((account.0 +ℤ pos p.reserved.0) ≤ℤ pos 1000000000) }
-    ensures { Shifted p result account.0 }
-{
-    Position {
-        account,
-        reserved: p.reserved,
-        paid_in: p.paid_in,
-        paid_out: p.paid_out,
-    }
-}
-
 impl Accounts {
-    fn credit(&mut self, m: u8, c: u8, amount: Amount)
-        requires { (m < vec_len self.old.members) × ((c < 24) × ((amount.0 ≤ 1000000000) × (Room (account self.old) (reserve_of self.old) m c amount.0))) }
-        ensures { Moves self.old self.new (credited (account self.old) m c amount.0) }
+    // Puts a member's account in a currency; what it has reserved, paid in and been paid out stays.
+    fn put_account(&mut self, m: u8, c: u8, units: Units)
+        requires placed { (m < vec_len self.old.members) × (c < most_currencies) }
+        requires low { neg_ℤ (pos most_units) ≤ℤ units.0 }
+        requires high { (units.0 +ℤ pos (reserve_of self.old m c)) ≤ℤ pos most_units }
+        ensures { Moves self.old self.new (with_at (account self.old) m (with_at (account self.old m) c units.0)) }
     {
-        let p = self.book.position(m, c);
-        self.book.put(m, c, shifted(p, p.account + amount));
+        let mut position = self.book.position(m, c);
+        position.account = units;
+        self.book.put(m, c, position);
     }
 
-    fn debit(&mut self, m: u8, c: u8, amount: Amount)
-        requires { (m < vec_len self.old.members) × ((c < 24) × ((amount.0 ≤ 1000000000) × (Cover (account self.old) m c amount.0))) }
-        ensures { Moves self.old self.new (debited (account self.old) m c amount.0) }
+    // Moves a member's accounts by its leg.
+    fn move_leg(&mut self, member: u8, leg: Leg)
+        requires placed { (member < vec_len self.old.members) × ((leg.buys < most_currencies) × (leg.sells < most_currencies)) }
+        requires two { leg.buys ≢ leg.sells }
+        requires high { (after_leg (account self.old member) leg leg.buys +ℤ pos (reserve_of self.old member leg.buys)) ≤ℤ pos most_units }
+        requires low { neg_ℤ (pos most_units) ≤ℤ after_leg (account self.old member) leg leg.sells }
+        ensures { Moves self.old self.new (with_at (account self.old) member (after_leg (account self.old member) leg)) }
     {
-        let p = self.book.position(m, c);
-        self.book.put(m, c, shifted(p, p.account - amount));
+        let row = self.after(member, leg);
+        let bought = row.balance(leg.buys).units;
+        let sold = row.balance(leg.sells).units;
+        self.put_account(member, leg.buys, bought);
+        self.put_account(member, leg.sells, sold);
     }
 
     // Moves both parties' accounts by both legs of a pair that nothing stops.
     fn move_pair(&mut self, p: &Pair)
-        requires placed { Within p.now (vec_len self.old.members) (sheet_of self.old.sheet).currencies }
+        requires placed { Placed self.old p.now }
         requires passes { stops (setting_within self.old) (reserve_of self.old) (account self.old) (pair_of p.now) ≡ None }
         ensures { Moves self.old self.new (after_pair (account self.old) (pair_of p.now)) }
     {
-        self.credit(p.first, p.buys, p.bought);
-        self.debit(p.first, p.sells, p.sold);
-        self.credit(p.second, p.sells, p.sold);
-        self.debit(p.second, p.buys, p.bought);
+        let leg = Leg::of(p);
+        self.move_leg(p.first, leg);
+        self.move_leg(p.second, leg.mirrored());
     }
-}
 
-impl Accounts {
     // Whether the parties of a pair are on the roster, and its currencies on the sheet.
     fn places(&self, p: &Pair) -> bool
-        ensures yes { result ≡ true → Within p.now (vec_len self.now.members) (sheet_of self.now.sheet).currencies }
-        ensures no { Within p.now (vec_len self.now.members) (sheet_of self.now.sheet).currencies → result ≡ true }
+        ensures { (result ≡ true) ↔ Placed self.now p.now }
     {
-        let members = self.members.len();
         let currencies = self.sheet.len();
-        usize::from(p.first) < members
-            && usize::from(p.second) < members
+        self.has_member(p.first)
+            && self.has_member(p.second)
             && p.buys < currencies
             && p.sells < currencies
     }
@@ -74,32 +69,31 @@ impl Accounts {
     /// Settles a pair unless a test stops it, and then answers what does: both parties' accounts move by both legs.
     ///
     /// A pair whose parties or currencies are not here moves nothing.
+    // An Option, as of `stopped_by`: that a pair is stopped is what the call tells, and no failure of it.
     pub fn try_settle(&mut self, p: &Pair) -> Option<Stop>
         ensures stop { stopped result ≡ stops (setting_within self.old) (reserve_of self.old) (account self.old) (pair_of p.now) }
-        ensures moved { is_some result ≡ false → Within p.now (vec_len self.old.members) (sheet_of self.old.sheet).currencies → Moves self.old self.new (after_pair (account self.old) (pair_of p.now)) }
+        ensures moved { is_some result ≡ false → Placed self.old p.now → Moves self.old self.new (after_pair (account self.old) (pair_of p.now)) }
         ensures waits { is_some result ≡ true → self.new ≡ self.old }
-        ensures away { (Within p.now (vec_len self.old.members) (sheet_of self.old.sheet).currencies → ⊥) → self.new ≡ self.old }
+        ensures away { (Placed self.old p.now → ⊥) → self.new ≡ self.old }
     {
-        match self.stopped_by(p) {
-            Some(stop) => Some(stop),
-            None => {
-                if self.places(p) {
-                    self.move_pair(p);
-                }
-                None
-            }
+        let stop = self.stopped_by(p);
+        if stop.is_none() && self.places(p) {
+            self.move_pair(p);
         }
+        stop
     }
 
     /// All reservations in a currency.
     pub fn reserved_in(&self, c: u8) -> Amount
         ensures value { result.0 ≡ total (vec_len self.now.members) (λ m. reserve_of self.now m c) }
-        ensures bound { result.0 ≤ 32000000000000 }
+        ensures bound { result.0 ≤ most_members * most_sum }
     {
-        let mut sum = Amount(0);
-        for m in 0..self.members.len() as u8 {
-            sum = sum + self.book.position(m, c).reserved;
-        }
-        sum
+        let reserved: u64 = self
+            .book
+            .rows
+            .iter()
+            .map(|row| row.position(c).reserved.0)
+            .sum();
+        Amount(reserved)
     }
 }

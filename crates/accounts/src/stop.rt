@@ -1,5 +1,5 @@
 /// The tests that a pair passes before it settles, in their order.
-#[derive(Clone, Copy)]
+#[derive(Clone, Copy, Debug, PartialEq, Eq)]
 pub enum Test {
     /// In the bought currency, account plus reservations is at most 10^9.
     Ceiling,
@@ -12,9 +12,11 @@ pub enum Test {
 }
 
 /// What stops a pair: the test, the member that fails it, and the currency of the first two tests.
-#[derive(Clone, Copy)]
+#[derive(Clone, Copy, Debug, PartialEq, Eq)]
 pub struct Stop {
     pub test: Test,
     pub member: u8,
+    /// `None` for the tests on the whole row.
+    // Beside the test, as the rules' stop has it: `stop_of` then goes field by field.
     pub currency: Option<u8>,
 }

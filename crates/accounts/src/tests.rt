@@ -1,135 +1,112 @@
-ghost use Rattle.std.specs.Prelude.{◌≡◌, ℕ, ◌<◌, ◌≤◌, ℤ, pos, ◌+ℤ◌, neg_ℤ, Some, None, int_lt, nat_lt};
+ghost use Rattle.std.specs.Prelude.{◌≡◌, ℕ, ◌<◌, ◌≤◌, ℤ, pos, ◌+ℤ◌, neg_ℤ, Some, None};
+ghost use Rattle.std.specs.Result.{result_err};
 ghost use Rattle.rules.specs.First.{first_of};
-ghost use Rattle.rules.specs.Tests.{stops};
-ghost use Rattle.rules.specs.Worth.{adjusted, short_marks};
+ghost use Rattle.rules.specs.Tests.{stops, fails_1, fails_2, fails_3, fails_4};
 ghost use Rattle.intake.specs.Parties.{pair_of};
 ghost use Rattle.accounts.specs.Meaning.{setting_within, account, reserve_of, stopped, stop_of, test_of};
-ghost use Rattle.accounts.specs.Legs.{after_leg, tests_on};
+ghost use Rattle.accounts.specs.Legs.{row_after, tests_on, Checks};
 
 use crate::accounts::Accounts;
 use crate::after::After;
 use crate::leg::Leg;
 use crate::stop::{Stop, Test};
 use intake::Pair;
+use refusal::refuse_if;
+use rules::MOST_UNITS;
 use sheet::Balances;
+use units::{Amount, Thousandths, Units};
 
-/// Most units of a currency that account plus reservations may be.
-const MOST_UNITS: i64 = 1_000_000_000;
+impl After<'_> {
+    // Answers that a test on the row stops its member.
+    fn stop(&self, test: Test, currency: Option<u8>) -> Stop
+        ensures { stop_of result ≡ record { test = test_of test; member = self.now.member; currency = currency } }
+    {
+        Stop {
+            test,
+            member: self.member,
+            currency,
+        }
+    }
+}
 
 impl Accounts {
-    // The row of a member after its leg.
-    fn after(&self, member: u8, leg: &Leg) -> After<'_>
-        ensures book { result.book.now ≡ self.now.book }
-        ensures leg { (result.member ≡ member) × (result.leg ≡ leg.now) }
+    /// The row of a member as it would be after a leg.
+    pub fn after(&self, member: u8, leg: Leg) -> After<'_>
+        ensures { (result.book.now ≡ self.now.book) × (result.member ≡ member) × (result.leg ≡ leg) }
     {
         After {
             book: &self.book,
             member,
-            leg: *leg,
+            leg,
         }
     }
 
-    // Test 1: in the bought currency, account plus reservations is above the ceiling.
-    fn is_above_ceiling(&self, m: u8, leg: &Leg) -> bool
-        ensures { result ≡ int_lt (pos 1000000000) (after_leg (account self.now m) leg.now leg.now.buys +ℤ pos (reserve_of self.now m leg.now.buys)) }
+    // Test 1: in the bought currency, account plus reservations is at most the ceiling.
+    fn check_ceiling(&self, row: &After) -> Result<(), Stop>
+        ensures { Checks (fails_1 (reserve_of self.now) (λ _. row_after row.now) row.now.member row.now.leg.buys) result }
     {
-        let balance = self.after(m, leg).balance(leg.buys);
-        (balance + self.book.position(m, leg.buys).reserved).0 > MOST_UNITS
+        let c = row.leg.buys;
+        let held = row.balance(c).units + self.book.position(row.member, c).reserved;
+        refuse_if(
+            held > Units(0) + Amount(MOST_UNITS),
+            row.stop(Test::Ceiling, Some(c)),
+        )
     }
 
-    // Test 2: in the sold currency, the account is below minus the short limit.
-    fn is_beyond_short_limit(&self, m: u8, leg: &Leg) -> bool
-        ensures { result ≡ int_lt (after_leg (account self.now m) leg.now leg.now.sells) (neg_ℤ (pos (((setting_within self.now).roster.member m).short leg.now.sells))) }
+    // Test 2: in the sold currency, the account is not below minus the short limit.
+    fn check_short_limit(&self, row: &After) -> Result<(), Stop>
+        ensures { Checks (fails_2 (setting_within self.now) (λ _. row_after row.now) row.now.member row.now.leg.sells) result }
     {
-        self.after(m, leg).balance(leg.sells).0 < 0 - self.short_limit(m, leg.sells).0 as i64
+        let c = row.leg.sells;
+        refuse_if(
+            row.balance(c).units < Units(0) - self.short_limit(row.member, c),
+            row.stop(Test::ShortLimit, Some(c)),
+        )
     }
 
-    // Test 3: the short marks of the row are above the aggregate limit.
-    fn is_beyond_aggregate_limit(&self, m: u8, leg: &Leg) -> bool
-        ensures { result ≡ nat_lt ((setting_within self.now).roster.member m).aggregate (short_marks (setting_within self.now).sheet (after_leg (account self.now m) leg.now)) }
+    // Test 3: the short marks of the row are at most the aggregate limit.
+    fn check_aggregate_limit(&self, row: &After) -> Result<(), Stop>
+        ensures { Checks (fails_3 (setting_within self.now) (λ _. row_after row.now) row.now.member) result }
     {
-        self.aggregate_limit(m).0 < self.sheet.short_marks(&self.after(m, leg)).0
+        refuse_if(
+            self.sheet.short_marks(row) > self.aggregate_limit(row.member),
+            row.stop(Test::AggregateLimit, None),
+        )
     }
 
-    // Test 4: the adjusted value of the row is below 0.
-    fn is_worth_less_than_nothing(&self, m: u8, leg: &Leg) -> bool
-        ensures { result ≡ int_lt (adjusted (setting_within self.now).sheet (after_leg (account self.now m) leg.now)) (pos 0) }
+    // Test 4: the adjusted value of the row is at least 0.
+    fn check_adjusted_value(&self, row: &After) -> Result<(), Stop>
+        ensures { Checks (fails_4 (setting_within self.now) (λ _. row_after row.now) row.now.member) result }
     {
-        self.sheet.adjusted_value(&self.after(m, leg)).0 < 0
+        refuse_if(
+            self.sheet.adjusted_value(row) < Thousandths(0),
+            row.stop(Test::AdjustedValue, None),
+        )
     }
-}
 
-// A stop at a member and a currency, and one at a member's whole row.
-fn stop_at(test: Test, member: u8, currency: u8) -> Stop
-    ensures { stop_of result ≡ record { test = test_of test; member = member; currency = Some currency } }
-{
-    Stop {
-        test,
-        member,
-        currency: Some(currency),
-    }
-}
-
-fn stop_of_row(test: Test, member: u8) -> Stop
-    ensures { stop_of result ≡ record { test = test_of test; member = member; currency = None } }
-{
-    Stop {
-        test,
-        member,
-        currency: None,
-    }
-}
-
-impl Accounts {
-    // The tests on the two rows, in order.
-    fn first_failing(&self, p: &Pair, first: &Leg, second: &Leg) -> Option<Stop>
-        requires first { (first.now.buys ≡ p.now.buys) × (first.now.sells ≡ p.now.sells) }
-        requires second { (second.now.buys ≡ p.now.sells) × (second.now.sells ≡ p.now.buys) }
-        ensures { stopped result ≡ first_of (tests_on (setting_within self.now) (reserve_of self.now) (after_leg (account self.now p.now.first) first.now) (after_leg (account self.now p.now.second) second.now) (pair_of p.now)) }
+    // The tests on the two rows, up to the first that fails.
+    //
+    // Test by test, and in each the first party before the second: the order is that of the rules.
+    fn check(&self, first: &After, second: &After) -> Result<(), Stop>
+        ensures { stopped (result_err result) ≡ first_of (tests_on (setting_within self.now) (reserve_of self.now) first.now second.now) }
     {
-        if self.is_above_ceiling(p.first, first) {
-            return Some(stop_at(Test::Ceiling, p.first, p.buys));
-        }
-        if self.is_above_ceiling(p.second, second) {
-            return Some(stop_at(Test::Ceiling, p.second, p.sells));
-        }
-        if self.is_beyond_short_limit(p.first, first) {
-            return Some(stop_at(Test::ShortLimit, p.first, p.sells));
-        }
-        if self.is_beyond_short_limit(p.second, second) {
-            return Some(stop_at(Test::ShortLimit, p.second, p.buys));
-        }
-        if self.is_beyond_aggregate_limit(p.first, first) {
-            return Some(stop_of_row(Test::AggregateLimit, p.first));
-        }
-        if self.is_beyond_aggregate_limit(p.second, second) {
-            return Some(stop_of_row(Test::AggregateLimit, p.second));
-        }
-        if self.is_worth_less_than_nothing(p.first, first) {
-            return Some(stop_of_row(Test::AdjustedValue, p.first));
-        }
-        if self.is_worth_less_than_nothing(p.second, second) {
-            return Some(stop_of_row(Test::AdjustedValue, p.second));
-        }
-        None
+        self.check_ceiling(first)?;
+        self.check_ceiling(second)?;
+        self.check_short_limit(first)?;
+        self.check_short_limit(second)?;
+        self.check_aggregate_limit(first)?;
+        self.check_aggregate_limit(second)?;
+        self.check_adjusted_value(first)?;
+        self.check_adjusted_value(second)
     }
 
     /// What stops a pair, if anything does: the first test that fails on the rows as they would be after both legs.
     pub fn stopped_by(&self, p: &Pair) -> Option<Stop>
         ensures { stopped result ≡ stops (setting_within self.now) (reserve_of self.now) (account self.now) (pair_of p.now) }
     {
-        let first = Leg {
-            buys: p.buys,
-            bought: p.bought,
-            sells: p.sells,
-            sold: p.sold,
-        };
-        let second = Leg {
-            buys: p.sells,
-            bought: p.sold,
-            sells: p.buys,
-            sold: p.bought,
-        };
-        self.first_failing(p, &first, &second)
+        let leg = Leg::of(p);
+        let first = self.after(p.first, leg);
+        let second = self.after(p.second, leg.mirrored());
+        self.check(&first, &second).err()
     }
 }

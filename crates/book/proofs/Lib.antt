@@ -1,4 +1,1 @@
-pub mod Same
 pub mod Tables
-mod Lapsing
-pub mod Empty

@@ -1,6 +1,7 @@
 -- A book's positions, by member and currency.
 use Rattle.std.specs.Prelude.{◌≡◌, ℕ, ◌<◌, List, [], pos, ◌+ℤ◌, vec_items, vec_len, ◌≢◌, slice_index_or}
 use Rattle.std.proofs.Common.{lit≤}
+use Rattle.rules.specs.Bounds.{most_currencies}
 use Rattle.book.specs.declared.position.Position.{Position}
 use Rattle.book.specs.declared.row.Row.{Row}
 use Rattle.book.specs.declared.table.Book.{Book}
@@ -27,7 +28,7 @@ pub record Put (old new : Book) (m c : ℕ) (p : Position) : Type 0 where
 
 -- m is a row of the book, and c a currency number
 abbrev pub Holds : Book → ℕ → ℕ → Type 0
-Holds b m c = (m < vec_len b.rows) × (c < 24)
+Holds b m c = (m < vec_len b.rows) × (c < most_currencies)
 
 -- what is reserved is back in the account, and nothing else changes
 pub record Lapsed (p q : Position) : Type 0 where

@@ -3,7 +3,7 @@ ghost use Rattle.book.specs.Ranges.{InRange};
 use units::{Amount, Units};
 
 /// What a member has in one currency: its account, what of it is reserved, and what it has paid in and been paid out today.
-#[derive(Clone, Copy)]
+#[derive(Clone, Copy, Debug, PartialEq, Eq)]
 pub struct Position {
     pub account: Units,
     pub reserved: Amount,

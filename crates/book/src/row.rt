@@ -1,7 +1,8 @@
 use crate::position::Position;
+use rules::MOST_CURRENCIES;
 
 /// One member's positions, by currency number.
-#[derive(Clone, Copy)]
+#[derive(Clone, Copy, Debug, PartialEq, Eq)]
 pub struct Row {
-    pub positions: [Position; 24],
+    pub positions: [Position; MOST_CURRENCIES],
 }

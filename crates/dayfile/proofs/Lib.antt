@@ -1,3 +1,4 @@
 pub mod Listed
-mod Parts
+pub mod Parts
+pub mod Few
 pub mod Formed

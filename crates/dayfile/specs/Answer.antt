@@ -1,8 +1,6 @@
 -- What the reader of a day file answers.
 use Rattle.std.specs.Prelude.{◌≡◌, ℕ, ◌+◌, ◌<◌, ◌≤◌, List, length, Some, None, Ok, Err, Option, Result, slice_index}
-use Rattle.rules.specs.First.{first_of}
-use Rattle.rules.specs.Below.{listed}
-use Rattle.rules.specs.FileForm.{currencies_in, members_in, instructions_in, steps_in, member_size, currency_at, member_at, instruction_at, step_at, kind_cause, file_refusal, form_refusal}
+use Rattle.rules.specs.FileForm.{currencies_in, members_in, instructions_in, steps_in, member_size, currency_at, member_at, instruction_at, step_at, form_refusal}
 use Rattle.rules.specs.FileRecords.{currency_in, member_in, instruction_in, step_in, records_in, record_in, record_end}
 use Rattle.refusal.specs.declared.refused.Refusal.{Refusal}
 use Rattle.refusal.specs.Meaning.{refusal_of}
@@ -19,15 +17,9 @@ abbrev pub Read : List ℕ → Result DayFile Refusal → Type 0
 Read f (Ok d) = (form_refusal f ≡ None) × (file_of d ≡ f)
 Read f (Err e) = form_refusal f ≡ Some (refusal_of e)
 
--- where the first step of no known kind stands
-abbrev pub Unknown : List ℕ → Option ℕ → Type 0
-Unknown f None = first_of (listed (steps_in f) (kind_cause f)) ≡ None
-Unknown f (Some at) = first_of (listed (steps_in f) (kind_cause f)) ≡ Some (file_refusal 4 at)
-
--- The i-th of n records, which ends at `end`: what the rules read there. Nothing just where there are not so many,
--- or where the file ends before it does, which no file of the right form does.
+-- the i-th of n records, which ends at `end`: what the rules read there, or nothing where there are not so many
 abbrev pub Nth : {A B : Type 0} → (A → B) → List ℕ → ℕ → ℕ → ℕ → B → Option A → Type 0
-Nth of f n i end x None = (i < n → length f < end) × (form_refusal f ≡ None → n ≤ i)
+Nth of f n i end x None = n ≤ i
 Nth of f n i end x (Some r) = (i < n) × (end ≤ length f) × (of r ≡ x)
 
 abbrev pub CurrencyAt : List ℕ → ℕ → Option CurrencyRecord → Type 0

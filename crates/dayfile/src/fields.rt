@@ -1,42 +1,67 @@
-//! Fields that are more than a number: a name, a member's short limits, a step.
-ghost use Rattle.std.specs.Prelude.{◌≡◌, ◌+◌, ◌≤◌, length, MatchOption, ◌≢◌};
-ghost use Rattle.rules.specs.FileRecords.{part, trimmed, trimmed_length, step_from};
-ghost use Rattle.rules.specs.FileForm.{eight_bytes};
-ghost use Rattle.dayfile.specs.Meaning.{shorts_of, step_of};
+//! How each record is read from its bytes.
+ghost use Rattle.std.specs.Prelude.{◌≡◌, ℕ, ◌+◌, ◌*◌, ◌≤◌, List, length, true};
+ghost use Rattle.rules.specs.FileForm.{byte, known_kind};
+ghost use Rattle.rules.specs.FileRecords.{trimmed, currency_from, member_from, instruction_from, step_from};
+ghost use Rattle.dayfile.specs.Meaning.{currency_of, member_of, shorts_of, instruction_of, step_of};
 ghost use Rattle.dayfile.specs.Answer.{In};
+ghost use Rattle.dayfile.specs.declared.layout.TheConstants.{CURRENCY_SIZE, MEMBER_SIZE, LIMIT_SIZE, INSTRUCTION_SIZE, STEP_SIZE};
 
-use crate::bytes::{eight_bytes_at, four_bytes_at};
-use crate::form::{LIMIT_SIZE, MEMBER_SIZE};
-use crate::records::{MemberRecord, StepRecord};
+use crate::bytes::field;
+use crate::kind::StepKind;
+use crate::layout::MEMBER_SIZE;
+use crate::records::{CurrencyRecord, InstructionRecord, MemberRecord, StepRecord};
+use rules::{CODE_SIZE, LONGEST_NAME};
 
-// Bytes of a name, with the spaces that fill it up.
-const NAME_SIZE: usize = 16;
+// A record that stands in a file.
+pub(crate) trait Stored<'a>: Sized {
+    // Which bytes are a record of the kind, and what record they are.
+    ghost stands: { List ℕ → Type 0 };
 
-/// The member whose record begins at a place, with short limits of so many bytes.
-pub(crate) fn member_at<'a>(file: &'a [u8], at: usize, shorts_size: usize) -> MemberRecord<'a>
-    requires { at + 24 + shorts_size ≤ length file.now }
-    ensures name { result.name.now ≡ trimmed (part file.now at 16) }
-    ensures aggregate { result.aggregate ≡ eight_bytes file.now (at + 16) }
-    ensures shorts { result.shorts.now ≡ part file.now (at + 24) shorts_size }
-{
-    let field = &file[at..at + NAME_SIZE];
-    MemberRecord {
-        name: &field[0..name_len(field)],
-        aggregate: eight_bytes_at(file, at + NAME_SIZE),
-        shorts: &file[at + MEMBER_SIZE..at + MEMBER_SIZE + shorts_size],
+    ghost says: { List ℕ → Self → Type 0 };
+
+    // The record of these bytes, which it may borrow.
+    fn read(bytes: &'a [u8]) -> Self
+        requires { stands bytes.now }
+        ensures { says bytes.now result };
+}
+
+impl<'a> Stored<'a> for CurrencyRecord<'a> {
+    ghost stands = { λ b. length b ≡ CURRENCY_SIZE };
+
+    ghost says = { λ b c. currency_of c ≡ currency_from b 0 };
+
+    fn read(bytes: &'a [u8]) -> CurrencyRecord<'a> {
+        CurrencyRecord {
+            code: &bytes[..CODE_SIZE],
+            instalments: bytes[3],
+            rate: u32::from_le_bytes(field(bytes, 4)),
+            haircut: u16::from_le_bytes(field(bytes, 8)),
+        }
     }
 }
 
-// How much of a name's field is left when the spaces at its end are taken off.
-fn name_len(field: &[u8]) -> usize
-    ensures value { result ≡ trimmed_length field.now (length field.now) }
-    ensures bound { result ≤ length field.now }
-{
-    let mut n = field.len();
-    while n > 0 && field[n - 1] == b' ' {
-        n -= 1;
+impl<'a> Stored<'a> for MemberRecord<'a> {
+    ghost stands = { λ b. MEMBER_SIZE ≤ length b };
+
+    ghost says = { λ b m. (n : ℕ) → length b ≡ MEMBER_SIZE + LIMIT_SIZE * n → member_of m ≡ member_from b n 0 };
+
+    fn read(bytes: &'a [u8]) -> MemberRecord<'a> {
+        MemberRecord {
+            name: without_spaces(&bytes[..LONGEST_NAME]),
+            aggregate: u64::from_le_bytes(field(bytes, LONGEST_NAME)),
+            shorts: &bytes[MEMBER_SIZE..],
+        }
     }
-    n
+}
+
+// What is left of a name's field when the spaces that fill it up are taken off.
+fn without_spaces(field: &[u8]) -> &[u8]
+    ensures { result.now ≡ trimmed field.now }
+{
+    field
+        .iter()
+        .rposition(|b| *b != b' ')
+        .map_or(&[], |last| &field[..=last])
 }
 
 impl MemberRecord<'_> {
@@ -44,37 +69,53 @@ impl MemberRecord<'_> {
     pub fn short_limit(self, c: usize) -> Option<u32>
         ensures { In (shorts_of self.entry) c result }
     {
-        if c >= self.shorts.len() / LIMIT_SIZE {
-            return None;
-        }
-        Some(four_bytes_at(self.shorts, LIMIT_SIZE * c))
+        let (limits, _) = self.shorts.as_chunks::<4>();
+        let limit = limits.get(c)?;
+        Some(u32::from_le_bytes(*limit))
     }
 }
 
-/// The step of a record of eight bytes. The fields that its kind does not read are passed over; a kind past the third
-/// is a pay-out, since the form of the file leaves only the fourth.
-pub(crate) fn step_of(record: &[u8]) -> Option<StepRecord>
-    ensures { MatchOption result (length «record».now ≢ 8) (λ s. (length «record».now ≡ 8) × (step_of s ≡ step_from «record».now 0)) }
-{
-    let [kind, member, currency, hour, amount @ ..] = record else {
-        return None;
-    };
-    if amount.len() != 4 {
-        return None;
+impl<'a> Stored<'a> for InstructionRecord {
+    ghost stands = { λ b. length b ≡ INSTRUCTION_SIZE };
+
+    ghost says = { λ b i. instruction_of i ≡ instruction_from b 0 };
+
+    fn read(bytes: &'a [u8]) -> InstructionRecord {
+        let [submitter, counterparty, buys, sells] = field::<4>(bytes, 0);
+        InstructionRecord {
+            submitter,
+            counterparty,
+            buys,
+            bought: u32::from_le_bytes(field(bytes, 4)),
+            sells,
+            sold: u32::from_le_bytes(field(bytes, 8)),
+            reference: u32::from_le_bytes(field(bytes, 12)),
+        }
     }
-    let amount = four_bytes_at(amount, 0);
-    Some(match *kind {
-        1 => StepRecord::PayIn {
-            member: *member,
-            currency: *currency,
-            amount,
-        },
-        2 => StepRecord::Clock { hour: *hour },
-        3 => StepRecord::Settle,
-        _ => StepRecord::PayOut {
-            member: *member,
-            currency: *currency,
-            amount,
-        },
-    })
+}
+
+impl<'a> Stored<'a> for StepRecord {
+    ghost stands = { λ b. (length b ≡ STEP_SIZE) × (known_kind (byte b 0) ≡ true) };
+
+    ghost says = { λ b s. step_of s ≡ step_from b 0 };
+
+    // The fields that the step's kind does not read are passed over.
+    fn read(bytes: &'a [u8]) -> StepRecord {
+        let [kind, member, currency, hour] = field::<4>(bytes, 0);
+        let amount = u32::from_le_bytes(field(bytes, 4));
+        match StepKind::try_from(kind).unwrap() {
+            StepKind::PayIn => StepRecord::PayIn {
+                member,
+                currency,
+                amount,
+            },
+            StepKind::Clock => StepRecord::Clock { hour },
+            StepKind::Settle => StepRecord::Settle,
+            StepKind::PayOut => StepRecord::PayOut {
+                member,
+                currency,
+                amount,
+            },
+        }
+    }
 }

@@ -1,7 +1,7 @@
 //! The records of a day file. Codes and names are parts of the file.
 
 /// A currency: its code, its rate in marks for one unit, its haircut in thousandths, its number of instalments.
-#[derive(Clone, Copy)]
+#[derive(Clone, Copy, Debug, PartialEq, Eq)]
 pub struct CurrencyRecord<'a> {
     pub code: &'a [u8],
     pub rate: u32,
@@ -10,7 +10,7 @@ pub struct CurrencyRecord<'a> {
 }
 
 /// A member: its name without the spaces that fill it up, and its limits. `short_limit` answers its limit in a currency.
-#[derive(Clone, Copy)]
+#[derive(Clone, Copy, Debug, PartialEq, Eq)]
 pub struct MemberRecord<'a> {
     pub name: &'a [u8],
     /// In marks, over all currencies.
@@ -20,7 +20,7 @@ pub struct MemberRecord<'a> {
 }
 
 /// An instruction: the submitter buys one amount from the counterparty, and sells it another.
-#[derive(Clone, Copy)]
+#[derive(Clone, Copy, Debug, PartialEq, Eq)]
 pub struct InstructionRecord {
     pub submitter: u8,
     pub counterparty: u8,
@@ -32,7 +32,7 @@ pub struct InstructionRecord {
 }
 
 /// A step of the day, with what its kind reads.
-#[derive(Clone, Copy)]
+#[derive(Clone, Copy, Debug, PartialEq, Eq)]
 pub enum StepRecord {
     PayIn {
         member: u8,
@@ -52,7 +52,7 @@ pub enum StepRecord {
 }
 
 /// Any record of a day file.
-#[derive(Clone, Copy)]
+#[derive(Clone, Copy, Debug, PartialEq, Eq)]
 pub enum Record<'a> {
     Currency(CurrencyRecord<'a>),
     Member(MemberRecord<'a>),

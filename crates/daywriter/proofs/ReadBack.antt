@@ -1,5 +1,5 @@
 -- Records that are written and read back.
-use Rattle.std.proofs.Common.{◌≡◌, ℕ, zero, suc, ◌+◌, ◌-◌, ◌*◌, ◌^◌, ◌<◌, ◌≤◌, true, false, eqb, ltb, List, [], ◌∷◌, ◌++◌, length, get_or, replicate, refl, ap, ◌∙◌, add-zero, arith, lit<}
+use Rattle.std.proofs.Common.{◌≡◌, ℕ, zero, suc, ◌+◌, ◌-◌, ◌*◌, ◌^◌, ◌<◌, ◌≤◌, true, false, eqb, ltb, List, [], ◌∷◌, ◌++◌, length, get_or, replicate, refl, ap, ◌∙◌, add-zero, append_assoc, arith, lit<}
 use Rattle.std.specs.List.{flat_map, AllByRecursion}
 use Rattle.std.proofs.ByRecursion.{All-get_or}
 use Rattle.std.proofs.lemmas.List.{length-append, length-replicate, take_at, get_or_append_left, get_or-append-add, get_or-replicate}
@@ -11,8 +11,9 @@ use Rattle.rules.specs.FileForm.{byte, four_bytes, known_kind}
 use Rattle.rules.specs.FileRecords.{MemberRecord, FileStep, pay_in, clock, settle, pay_out, part, trimmed, trimmed_length, currency_from, member_from, instruction_from, step_from}
 use Rattle.rules.specs.FileWriting.{number_bytes, name_bytes, currency_bytes, member_bytes, instruction_bytes, step_fields, step_bytes, name_wrong}
 use Rattle.rules.specs.FileAgain.{CurrencyFits, MemberFits, InstructionFits, StepFits}
+use Rattle.dayfile.proofs.Listed.{listed_is}
 use Rattle.daywriter.proofs.Numbers.{length_number}
-use Rattle.daywriter.proofs.Standing.{Stands, stands_left, stands_after, stands_one, stands_two, stands_four, stands_eight, stands_nth, listed_is, length_joined}
+use Rattle.daywriter.proofs.Standing.{Stands, numbers_bytes, stands_left, stands_after, each_stands, stands_one, stands_two, stands_four, stands_eight, stands_nth, length_joined}
 
 -- each short limit has four bytes
 all_four : (xs : List ℕ) → AllByRecursion (λ x. length (number_bytes 4 x) ≡ 4) xs
@@ -24,21 +25,13 @@ unfolding currency_bytes
 length_currency c h = simp (length-append, length_number) (omega arith)
 
 pub currency_back : (f : List ℕ) (i : ℕ) (c : Currency) → length c.code ≡ 3 → CurrencyFits c → Stands f i (currency_bytes c) → currency_from f i ≡ c
-unfolding currency_bytes
+unfolding currency_bytes number_bytes
 currency_back f i c l fits s =
-    let x1 = c.code in
-    let x2 = number_bytes 1 c.instalments in
-    let x3 = number_bytes 4 c.rate in
-    let x4 = number_bytes 2 c.haircut in
-    let l4 : length (x1 ++ x2) ≡ 4 = simp (length-append, length_number) (omega arith) in
-    let l8 : length (x1 ++ x2 ++ x3) ≡ 8 = simp (length-append, length_number) (omega arith) in
-    let s8 = stands_left f i (x1 ++ x2 ++ x3) x4 s in
-    let s4 = stands_left f i (x1 ++ x2) x3 s8 in
-    let code : part f i 3 ≡ c.code = rw l at (stands_left f i x1 x2 s4).1 in
-    let instalments = stands_one f (i + 3) c.instalments fits.0 (stands_after 3 f i x1 x2 l s4) in
-    let rate = stands_four f (i + 4) c.rate fits.1 (stands_after 4 f i (x1 ++ x2) x3 l4 s8) in
-    let haircut = stands_two f (i + 8) c.haircut fits.2 (stands_after 8 f i (x1 ++ x2 ++ x3) x4 l8 s) in
-    rw (code, rate, haircut, instalments)
+    let xs : List (ℕ × ℕ) = (1, c.instalments) ∷ (4, c.rate) ∷ (2, c.haircut) ∷ [] in
+    let t : Stands f i (c.code ++ numbers_bytes xs) = simp append_assoc at s in
+    let code : part f i 3 ≡ c.code = rw l at (stands_left f i c.code (numbers_bytes xs) t).1 in
+    let p = each_stands f i 3 xs (stands_after 3 f i c.code (numbers_bytes xs) l t) in
+    rw (code, stands_four f (i + 4) c.rate fits.1 p.1.0, stands_two f (i + 8) c.haircut fits.2 p.1.1.0, stands_one f (i + 3) c.instalments fits.0 p.0)
 
 -- the spaces after a name are taken off, and no more
 spaces_off : (s : List ℕ) (n k : ℕ) → ((j : ℕ) → j < k → byte s (n + j) ≡ 32) → trimmed_length s (n + k) ≡ trimmed_length s n
@@ -96,32 +89,17 @@ unfolding instruction_bytes number_bytes
 length_instruction x = refl
 
 pub instruction_back : (f : List ℕ) (i : ℕ) (x : Instruction) → InstructionFits x → Stands f i (instruction_bytes x) → instruction_from f i ≡ x
-unfolding instruction_bytes
+unfolding instruction_bytes number_bytes
 instruction_back f i x fits s =
-    let x1 = number_bytes 1 x.submitter in
-    let x2 = number_bytes 1 x.counterparty in
-    let x3 = number_bytes 1 x.buys in
-    let x4 = number_bytes 1 x.sells in
-    let x5 = number_bytes 4 x.bought in
-    let x6 = number_bytes 4 x.sold in
-    let x7 = number_bytes 4 x.reference in
-    let l2 : length (x1 ++ x2) ≡ 2 = simp (length-append, length_number) in
-    let l3 : length (x1 ++ x2 ++ x3) ≡ 3 = simp (length-append, length_number) in
-    let l4 : length (x1 ++ x2 ++ x3 ++ x4) ≡ 4 = simp (length-append, length_number) in
-    let l8 : length (x1 ++ x2 ++ x3 ++ x4 ++ x5) ≡ 8 = simp (length-append, length_number) in
-    let l12 : length (x1 ++ x2 ++ x3 ++ x4 ++ x5 ++ x6) ≡ 12 = simp (length-append, length_number) in
-    let s6 = stands_left f i (x1 ++ x2 ++ x3 ++ x4 ++ x5 ++ x6) x7 s in
-    let s5 = stands_left f i (x1 ++ x2 ++ x3 ++ x4 ++ x5) x6 s6 in
-    let s4 = stands_left f i (x1 ++ x2 ++ x3 ++ x4) x5 s5 in
-    let s3 = stands_left f i (x1 ++ x2 ++ x3) x4 s4 in
-    let s2 = stands_left f i (x1 ++ x2) x3 s3 in
-    let submitter = stands_one f i x.submitter fits.0 (stands_left f i x1 x2 s2) in
-    let counterparty = stands_one f (i + 1) x.counterparty fits.1 (stands_after 1 f i x1 x2 (length_number 1 x.submitter) s2) in
-    let buys = stands_one f (i + 2) x.buys fits.2 (stands_after 2 f i (x1 ++ x2) x3 l2 s3) in
-    let sells = stands_one f (i + 3) x.sells fits.3 (stands_after 3 f i (x1 ++ x2 ++ x3) x4 l3 s4) in
-    let bought = stands_four f (i + 4) x.bought fits.4 (stands_after 4 f i (x1 ++ x2 ++ x3 ++ x4) x5 l4 s5) in
-    let sold = stands_four f (i + 8) x.sold fits.5 (stands_after 8 f i (x1 ++ x2 ++ x3 ++ x4 ++ x5) x6 l8 s6) in
-    let reference = stands_four f (i + 12) x.reference fits.6 (stands_after 12 f i (x1 ++ x2 ++ x3 ++ x4 ++ x5 ++ x6) x7 l12 s) in
+    let xs = (1, x.submitter) ∷ (1, x.counterparty) ∷ (1, x.buys) ∷ (1, x.sells) ∷ (4, x.bought) ∷ (4, x.sold) ∷ (4, x.reference) ∷ [] in
+    let p = each_stands f i 0 xs (rw (add-zero i) s) in
+    let submitter = rw (add-zero i) at (stands_one f (i + 0) x.submitter fits.0 p.0) in
+    let counterparty = stands_one f (i + 1) x.counterparty fits.1 p.1.0 in
+    let buys = stands_one f (i + 2) x.buys fits.2 p.1.1.0 in
+    let sells = stands_one f (i + 3) x.sells fits.3 p.1.1.1.0 in
+    let bought = stands_four f (i + 4) x.bought fits.4 p.1.1.1.1.0 in
+    let sold = stands_four f (i + 8) x.sold fits.5 p.1.1.1.1.1.0 in
+    let reference = stands_four f (i + 12) x.reference fits.6 p.1.1.1.1.1.1.0 in
     rw (submitter, counterparty, buys, bought, sells, sold, reference)
 
 pub length_step : (x : FileStep) → length (step_bytes x) ≡ 8
@@ -134,23 +112,14 @@ length_step (pay_out m c amount) = refl
 -- the five fields of a step's record
 fields_back : (f : List ℕ) (i kind m c hour amount : ℕ) → kind < 2 ^ 8 → m < 2 ^ 8 → c < 2 ^ 8 → hour < 2 ^ 8 → amount < 2 ^ 32 → Stands f i (step_fields kind m c hour amount)
     → (byte f i ≡ kind) × (byte f (i + 1) ≡ m) × (byte f (i + 2) ≡ c) × (byte f (i + 3) ≡ hour) × (four_bytes f (i + 4) ≡ amount)
+unfolding number_bytes
 fields_back f i kind m c hour amount hk hm hc hh ha s =
-    let x1 = number_bytes 1 kind in
-    let x2 = number_bytes 1 m in
-    let x3 = number_bytes 1 c in
-    let x4 = number_bytes 1 hour in
-    let x5 = number_bytes 4 amount in
-    let l2 : length (x1 ++ x2) ≡ 2 = simp (length-append, length_number) in
-    let l3 : length (x1 ++ x2 ++ x3) ≡ 3 = simp (length-append, length_number) in
-    let l4 : length (x1 ++ x2 ++ x3 ++ x4) ≡ 4 = simp (length-append, length_number) in
-    let s4 = stands_left f i (x1 ++ x2 ++ x3 ++ x4) x5 s in
-    let s3 = stands_left f i (x1 ++ x2 ++ x3) x4 s4 in
-    let s2 = stands_left f i (x1 ++ x2) x3 s3 in (
-      stands_one f i kind hk (stands_left f i x1 x2 s2),
-      stands_one f (i + 1) m hm (stands_after 1 f i x1 x2 (length_number 1 kind) s2),
-      stands_one f (i + 2) c hc (stands_after 2 f i (x1 ++ x2) x3 l2 s3),
-      stands_one f (i + 3) hour hh (stands_after 3 f i (x1 ++ x2 ++ x3) x4 l3 s4),
-      stands_four f (i + 4) amount ha (stands_after 4 f i (x1 ++ x2 ++ x3 ++ x4) x5 l4 s),
+    let p = each_stands f i 0 ((1, kind) ∷ (1, m) ∷ (1, c) ∷ (1, hour) ∷ (4, amount) ∷ []) (rw (add-zero i) s) in (
+      rw (add-zero i) at (stands_one f (i + 0) kind hk p.0),
+      stands_one f (i + 1) m hm p.1.0,
+      stands_one f (i + 2) c hc p.1.1.0,
+      stands_one f (i + 3) hour hh p.1.1.1.0,
+      stands_four f (i + 4) amount ha p.1.1.1.1.0,
     )
 
 -- a step is of a known kind

@@ -1,12 +1,12 @@
 -- Bytes that stand at a place of a file.
-use Rattle.std.proofs.Common.{◌≡◌, ℕ, zero, suc, ◌+◌, ◌*◌, ◌^◌, ◌<◌, ◌≤◌, List, [], ◌∷◌, ◌++◌, length, get_or, take, drop, sym, refl, ap, ◌∙◌, mul-suc, arith, take-add}
+use Rattle.std.proofs.Common.{◌≡◌, ℕ, zero, suc, ◌+◌, ◌*◌, ◌^◌, ◌<◌, ◌≤◌, List, [], ◌∷◌, ◌++◌, length, get_or, take, drop, sym, refl, ap, ◌∙◌, mul-suc, add_assoc, arith, take-add}
 use Rattle.std.specs.List.{flat_map, AllByRecursion}
-use Rattle.std.proofs.lemmas.List.{take-take, take_at, drop-take, drop-drop, drop_at, drop_more, length-append, length-drop, length-take-le, take_all, flat_map_more, same_lists}
+use Rattle.std.proofs.lemmas.List.{take-take, take_at, drop-take, drop-drop, drop_at, drop_more, length-append, take_all, flat_map_more}
 use Rattle.std.proofs.ByRecursion.{All-take, All-drop}
 use Rattle.rules.specs.FileForm.{byte, two_bytes, four_bytes, eight_bytes}
 use Rattle.rules.specs.FileRecords.{part}
 use Rattle.rules.specs.Below.{listed}
-use Rattle.dayfile.proofs.Listed.{length_listed, get_or-listed}
+use Rattle.dayfile.proofs.Parts.{length_part}
 use Rattle.rules.specs.FileWriting.{number_bytes}
 use Rattle.daywriter.proofs.Numbers.{value, value_append, length_number, value_number, number_value}
 
@@ -35,9 +35,6 @@ stands_join f i xs ys h k =
     (omega arith, rw (l, take-add (length xs) (length ys) (drop i f), e, h.1, k.1))
 
 -- part of a file, in two
-pub length_part : (f : List ℕ) (i n : ℕ) → i + n ≤ length f → length (part f i n) ≡ n
-length_part f i n h = length-take-le n (drop i f) (rw (length-drop i f) (omega arith))
-
 pub part_split : (f : List ℕ) (i a b : ℕ) → part f i (a + b) ≡ part f i a ++ part f (i + a) b
 part_split f i a b = take-add a b (drop i f) ∙ ap (λ (l : List ℕ). part f i a ++ take b l) (drop-drop a i f)
 
@@ -108,6 +105,30 @@ eight_stands f i a h = rw (eight_byte f i h) (value_stands 8 f i a h)
 pub stands_after : (n : ℕ) (f : List ℕ) (i : ℕ) (xs ys : List ℕ) → length xs ≡ n → Stands f i (xs ++ ys) → Stands f (i + n) ys
 stands_after n f i xs ys l s = rw l at (stands_right f i xs ys s)
 
+-- numbers one after another, each in so many bytes
+abbrev pub numbers_bytes : List (ℕ × ℕ) → List ℕ
+numbers_bytes [] = []
+numbers_bytes (x ∷ xs) = number_bytes x.0 x.1 ++ numbers_bytes xs
+
+-- each of them stands at its place, from o bytes after i on
+abbrev pub EachStands : List ℕ → ℕ → ℕ → List (ℕ × ℕ) → Type 0
+EachStands f i o [] = Unit {0}
+EachStands f i o (x ∷ xs) = Stands f (i + o) (number_bytes x.0 x.1) × EachStands f i (o + x.0) xs
+
+pub each_stands : (f : List ℕ) (i o : ℕ) (xs : List (ℕ × ℕ)) → Stands f (i + o) (numbers_bytes xs) → EachStands f i o xs
+each_stands f i o [] s = tt
+each_stands f i o (x ∷ xs) s = (
+  stands_left f (i + o) (number_bytes x.0 x.1) (numbers_bytes xs) s,
+  each_stands f i (o + x.0) xs (rw (add_assoc i o x.0) at (stands_after x.0 f (i + o) (number_bytes x.0 x.1) (numbers_bytes xs) (length_number x.0 x.1) s)),
+)
+
+pub all_stand : (f : List ℕ) (i o : ℕ) (xs : List (ℕ × ℕ)) → i + o ≤ length f → EachStands f i o xs → Stands f (i + o) (numbers_bytes xs)
+all_stand f i o [] b s = (omega arith, refl)
+all_stand f i o (x ∷ xs) b s =
+    let l = length_number x.0 x.1 in
+    let rest = all_stand f i (o + x.0) xs (omega (arith, s.0.0)) s.1 in
+    stands_join f (i + o) (number_bytes x.0 x.1) (numbers_bytes xs) s.0 (rw (l, add_assoc i o x.0) rest)
+
 -- records of w bytes each
 pub length_joined : {A : Type 0} (g : A → List ℕ) (w : ℕ) (xs : List A) → AllByRecursion (λ x. length (g x) ≡ w) xs → length (flat_map g xs) ≡ w * length xs
 length_joined g w [] a = omega arith
@@ -128,9 +149,3 @@ nth_stand g w f i (suc n) h b all =
     let j : flat_map g (listed n h ++ h n ∷ []) ≡ flat_map g (listed n h) ++ g (h n) = sym (flat_map_more g [] (listed n h) (h n)) in
     let there : Stands f (i + length (flat_map g (listed n h))) (g (h n)) = rw front.0 last.1 in
     rw (j, mul-suc w n) (length-append (flat_map g (listed n h)) (g (h n)) ∙ omega (arith, front.0, last.0), stands_join f i (flat_map g (listed n h)) (g (h n)) front.1 there)
-
--- a list that is counted up from a file, as a list that is known
-pub listed_is : {A : Type 0} (n : ℕ) (h : ℕ → A) (xs : List A) → length xs ≡ n → ((k : ℕ) (d : A) → k < n → h k ≡ get_or xs k d) → listed n h ≡ xs
-listed_is n h xs l e =
-    same_lists (listed n h) xs (length_listed n h ∙ sym l)
-    (λ k d b. let m : k < n = omega (arith, length_listed n h) in get_or-listed n k h d m ∙ e k d m)

@@ -1,64 +1,36 @@
 -- A whole file that is read and written again.
-use Rattle.std.proofs.Common.{◌≡◌, ℕ, zero, suc, ◌+◌, ◌*◌, ◌^◌, ◌<◌, true, false, eqb, List, [], ◌∷◌, ◌++◌, length, take, None, sym, refl, ap, ◌∙◌, ⊎_elim, zero-add, arith, lit<}
+use Rattle.std.proofs.Common.{◌≡◌, ℕ, ◌+◌, ◌*◌, ◌^◌, ◌<◌, false, eqb, List, [], ◌∷◌, ◌++◌, length, take, None, sym, refl, ap, ◌∙◌, ⊎_elim, zero-add, arith, lit<}
 use Rattle.std.specs.List.{flat_map, AllByRecursion}
-use Rattle.std.proofs.ByRecursion.{All-push, All-get_or}
-use Rattle.std.proofs.lemmas.List.{length-append, length-take-le, flat_map_more, get_or_past, take_all}
-use Rattle.std.proofs.lemmas.Bool.{not-false, not_from_true, eq-eqb, cases_lt, cond_both}
-use Rattle.rules.proofs.Firsts.{first_none, none_first}
-use Rattle.rules.specs.First.{Case, Never}
+use Rattle.std.proofs.ByRecursion.{All-get_or}
+use Rattle.std.proofs.lemmas.List.{length-append, length-take-le, get_or_past, take_all}
+use Rattle.std.proofs.lemmas.Bool.{not_from_true, eq-eqb, cases_lt, cond_both}
+use Rattle.rules.proofs.Firsts.{none_first}
 use Rattle.rules.specs.Below.{listed}
-use Rattle.rules.specs.FileForm.{byte, two_bytes, four_bytes, eight_bytes, currencies_in, members_in, instructions_in, steps_in, currency_at, member_at, instruction_at, step_at, member_size, known_kind, kind_cause, form_causes, form_refusal}
+use Rattle.rules.specs.FileForm.{byte, two_bytes, four_bytes, eight_bytes, currencies_in, members_in, instructions_in, steps_in, currency_at, member_at, instruction_at, step_at, member_size, form_refusal}
 use Rattle.rules.specs.FileRecords.{part, currency_in, member_in, instruction_in, step_in, step_from}
-use Rattle.dayfile.proofs.Formed.{whole, counted, currency_ends, member_ends, instruction_ends, step_ends, shorts_count}
-use Rattle.dayfile.proofs.Listed.{length_listed}
+use Rattle.dayfile.proofs.Parts.{length_part}
+use Rattle.dayfile.proofs.Formed.{whole, counted, currency_ends, member_ends, instruction_ends, step_ends, known, shorts_count}
+use Rattle.dayfile.proofs.Listed.{length_listed, all_listed, joined_same}
+use Rattle.dayfile.proofs.Few.{few_counts}
 use Rattle.rules.specs.FileWriting.{number_bytes, currency_bytes, member_bytes, instruction_bytes, step_bytes, count_bytes, day_bytes, code_wrong, name_wrong, shorts_wrong, fault_cases, writing_fault}
 use Rattle.rules.specs.FileAgain.{day_in, CurrencyFits, MemberFits, InstructionFits, StepFits, Fits, cleared_step, cleared, Clear, ReadIsWrittenAgain}
 use Rattle.daywriter.proofs.WholeFile.{written_reads_back}
-use Rattle.daywriter.proofs.Numbers.{length_number}
-use Rattle.daywriter.proofs.Standing.{Stands, length_part, two_stands, nth_stand}
+use Rattle.daywriter.proofs.Standing.{Stands, all_stand, two_stands, nth_stand}
 use Rattle.daywriter.proofs.ReadBack.{length_instruction}
 use Rattle.daywriter.proofs.WrittenAgain.{then, part_stands, name_right, currency_again, member_again, instruction_again, step_again}
-use Rattle.daywriter.proofs.Faultless.{few_counts, none_from_all}
-
-all_listed : {A : Type 0} (P : A → Type 0) (n : ℕ) (h : ℕ → A) → ((k : ℕ) → k < n → P (h k)) → AllByRecursion P (listed n h)
-all_listed P zero h p = tt
-all_listed P (suc n) h p = All-push P (listed n h) (h n) (all_listed P n h (λ k l. p k (omega arith))) (p n (omega arith))
-
-joined_same : {A B : Type 0} (g : A → List ℕ) (g' : B → List ℕ) (n : ℕ) (h : ℕ → A) (h' : ℕ → B) → ((k : ℕ) → k < n → g (h k) ≡ g' (h' k)) → flat_map g (listed n h) ≡ flat_map g' (listed n h')
-joined_same g g' zero h h' e = refl
-joined_same g g' (suc n) h h' e =
-    let front = joined_same g g' n h h' (λ k l. e k (omega arith)) in
-    let last = e n (omega arith) in
-    sym (flat_map_more g [] (listed n h) (h n)) ∙ rw (front, last) (flat_map_more g' [] (listed n h') (h' n))
-
--- what holds of none of a list holds of none that is counted up in it
-never_append : {A : Type 0} (xs ys : List (Case A)) → Never (xs ++ ys) → Never xs × Never ys
-never_append [] ys h = (tt, h)
-never_append (x ∷ xs) ys h = let more = never_append xs ys h.1 in ((h.0, more.0), more.1)
-
-never_listed : {A : Type 0} (n : ℕ) (g : ℕ → Case A) → Never (listed n g) → (k : ℕ) → k < n → (g k).holds ≡ false
-never_listed zero g h k l = absurd (omega arith)
-never_listed (suc n) g h k l =
-    let parts = never_append (listed n g) (g n ∷ []) h in
-    ⊎_elim (λ less. never_listed n g parts.0 k less) (λ last. let same : k ≡ n = omega arith in rw same parts.1.0) (cases_lt k n)
+use Rattle.daywriter.proofs.Faultless.{none_from_all}
 
 module _ (f : List ℕ) (bytes : AllByRecursion (λ b. b < 256) f) (e : form_refusal f ≡ None) where
   front_bytes : List ℕ
   front_bytes = count_bytes (day_in f) ++ flat_map currency_bytes (day_in f).currencies ++ flat_map member_bytes (day_in f).members ++ flat_map instruction_bytes (day_in f).instructions
 
   counts_stand : (length (count_bytes (day_in f)) ≡ 8) × Stands f 0 (count_bytes (day_in f))
+  unfolding number_bytes
   counts_stand =
       let w = whole f e in
-      let n1 = number_bytes 2 (currencies_in f) in
-      let n2 = number_bytes 2 (members_in f) in
-      let n3 = number_bytes 2 (instructions_in f) in
-      let n4 = number_bytes 2 (steps_in f) in
-      let l2 : length (n1 ++ n2) ≡ 4 = simp (length-append, length_number) in
-      let l3 : length (n1 ++ n2 ++ n3) ≡ 6 = simp (length-append, length_number) in
-      let s2 = then 2 f 0 n1 n2 (length_number 2 (currencies_in f)) (two_stands f 0 bytes (omega arith)) (two_stands f 2 bytes (omega arith)) in
-      let s3 = then 4 f 0 (n1 ++ n2) n3 l2 s2 (two_stands f 4 bytes (omega arith)) in
-      rw (length_listed (currencies_in f) (currency_in f), length_listed (members_in f) (member_in f), length_listed (instructions_in f) (instruction_in f), length_listed (steps_in f) (step_in f))
-      (simp (length-append, length_number), then 6 f 0 (n1 ++ n2 ++ n3) n4 l3 s3 (two_stands f 6 bytes (omega arith)))
+      let xs : List (ℕ × ℕ) = (2, currencies_in f) ∷ (2, members_in f) ∷ (2, instructions_in f) ∷ (2, steps_in f) ∷ [] in
+      let counts = all_stand f 0 0 xs (omega arith) (two_stands f 0 bytes (omega arith), (two_stands f 2 bytes (omega arith), (two_stands f 4 bytes (omega arith), (two_stands f 6 bytes (omega arith), tt)))) in
+      rw (length_listed (currencies_in f) (currency_in f), length_listed (members_in f) (member_in f), length_listed (instructions_in f) (instruction_in f), length_listed (steps_in f) (step_in f)) (refl, counts)
 
   front_stands : (length front_bytes ≡ step_at f 0) × Stands f 0 front_bytes
   unfolding front_bytes currency_in member_in instruction_in
@@ -80,15 +52,11 @@ module _ (f : List ℕ) (bytes : AllByRecursion (λ b. b < 256) f) (e : form_ref
       let s2 = then at1 f 0 (x0 ++ x1) x2 l1 s1 (rw (zero-add at1) ms.1) in
       (l3, then at2 f 0 (x0 ++ x1 ++ x2) x3 l2 s2 (rw (zero-add at2) xs.1))
 
-  kinds_known : (k : ℕ) → k < steps_in f → known_kind (byte f (step_at f k)) ≡ true
-  unfolding form_refusal
-  kinds_known k b = not-false _ (never_listed (steps_in f) (kind_cause f) (first_none (form_causes f) e).1.1.1 k b)
-
   again : day_bytes (day_in f) ≡ cleared f
   unfolding day_bytes cleared front_bytes step_in
   again =
       let front : front_bytes ≡ take (step_at f 0) f = sym (rw front_stands.0 at front_stands.1.1) in
-      let steps = joined_same step_bytes (cleared_step f) (steps_in f) (step_in f) (step_at f) (λ k b. step_again f bytes (step_at f k) (step_ends f k e b) (kinds_known k b)) in
+      let steps = joined_same step_bytes (cleared_step f) (steps_in f) (step_in f) (step_at f) (λ k b. step_again f bytes (step_at f k) (step_ends f k e b) (known f k e b)) in
       rw (steps) (ap (λ (l : List ℕ). l ++ flat_map (cleared_step f) (listed (steps_in f) (step_at f))) front)
 
   no_fault : writing_fault (day_in f) ≡ None

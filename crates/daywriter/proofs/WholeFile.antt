@@ -1,20 +1,21 @@
 -- A whole file that is written and read back.
-use Rattle.std.proofs.Common.{◌≡◌, ℕ, zero, suc, ◌+◌, ◌*◌, ◌<◌, ◌≤◌, false, List, [], ◌∷◌, ◌++◌, length, get_or, None, sym, refl, ◌∙◌, mul-le-mul, zero-add, add-one, arith}
+use Rattle.std.proofs.Common.{◌≡◌, ℕ, ◌+◌, ◌*◌, ◌<◌, ◌≤◌, false, List, [], ◌∷◌, ◌++◌, length, get_or, None, sym, refl, ◌∙◌, mul-le-mul, zero-add, arith}
 use Rattle.std.specs.List.{flat_map, AllByRecursion}
 use Rattle.std.proofs.ByRecursion.{All-get_or, All-weaker}
 use Rattle.std.proofs.lemmas.List.{length-append}
 use Rattle.std.proofs.lemmas.Bool.{ltb-false, le-ltb, or_parts, or_from, not_from_true, eq-eqb}
-use Rattle.rules.specs.First.{Case, first_of}
+use Rattle.rules.specs.First.{first_of}
 use Rattle.rules.specs.Below.{listed}
 use Rattle.rules.specs.FileForm.{currencies_in, members_in, instructions_in, steps_in, step_at, length_wrong, counts_wrong, form_wrong, kind_cause, form_refusal}
 use Rattle.rules.specs.FileRecords.{FileStep, settle, currency_in, member_in, instruction_in, step_in}
-use Rattle.dayfile.proofs.Listed.{none_more}
+use Rattle.dayfile.proofs.Listed.{none_of, listed_is}
+use Rattle.dayfile.proofs.Few.{few_counts}
 use Rattle.rules.specs.FileWriting.{DayRecords, number_bytes, currency_bytes, member_bytes, instruction_bytes, step_bytes, count_bytes, day_bytes, name_wrong}
 use Rattle.rules.specs.FileAgain.{CurrencyFits, MemberFits, InstructionFits, StepFits, Fits, WrittenReadsBack}
 use Rattle.daywriter.proofs.Numbers.{length_number}
-use Rattle.daywriter.proofs.Standing.{Stands, whole_stands, stands_left, stands_after, stands_two, stands_nth, listed_is, length_joined}
+use Rattle.daywriter.proofs.Standing.{Stands, whole_stands, stands_left, stands_after, each_stands, stands_two, stands_nth, length_joined}
 use Rattle.daywriter.proofs.ReadBack.{length_currency, currency_back, length_member, member_back, length_instruction, instruction_back, length_step, step_back}
-use Rattle.daywriter.proofs.Faultless.{Sound, few_counts, sound}
+use Rattle.daywriter.proofs.Faultless.{Sound, sound}
 
 -- the counts, and where the records of each kind stand
 pub record Laid (f : List ℕ) (d : DayRecords) : Type 0 where
@@ -35,11 +36,6 @@ all_both : {A : Type 0} (P Q R : A → Type 0) → ((x : A) → P x → Q x → 
 all_both P Q R h [] p q = tt
 all_both P Q R h (x ∷ xs) p q = (h x p.0 q.0, all_both P Q R h xs p.1 q.1)
 
--- none of a list that is counted up holds
-none_listed : {A : Type 0} (n : ℕ) (g : ℕ → Case A) → ((k : ℕ) → k < n → (g k).holds ≡ false) → first_of (listed n g) ≡ None
-none_listed zero g h = refl
-none_listed (suc n) g h = rw (add-one n) at (none_more g n (none_listed n g (λ k l. h k (omega arith))) (h n (omega arith)))
-
 -- a file of these counts is not too long
 room : (c m i t : ℕ) → c ≤ 24 → m ≤ 32 → i ≤ 1024 → t ≤ 2000 → 8 + 10 * c + (24 + 4 * c) * m + 16 * i + 8 * t ≤ 40000
 room c m i t hc hm hi ht = let p : (24 + 4 * c) * m ≤ 120 * 32 = mul-le-mul (let q : 24 + 4 * c ≤ 120 = omega arith in q) hm in omega arith
@@ -59,13 +55,9 @@ module _ (d : DayRecords) (ok : Sound d) where
   step_sizes = all_of (λ x. length (step_bytes x) ≡ 8) length_step d.steps
 
   pub laid : (f : List ℕ) → Stands f 0 (day_bytes d) → Laid f d
-  unfolding day_bytes
+  unfolding day_bytes number_bytes
   laid f s =
       let few = ok.few in
-      let n1 = number_bytes 2 (length d.currencies) in
-      let n2 = number_bytes 2 (length d.members) in
-      let n3 = number_bytes 2 (length d.instructions) in
-      let n4 = number_bytes 2 (length d.steps) in
       let x0 = count_bytes d in
       let x1 = flat_map currency_bytes d.currencies in
       let x2 = flat_map member_bytes d.members in
@@ -75,11 +67,8 @@ module _ (d : DayRecords) (ok : Sound d) where
       let s2 = stands_left f 0 (x0 ++ x1 ++ x2) x3 s3 in
       let s1 = stands_left f 0 (x0 ++ x1) x2 s2 in
       let s0 = stands_left f 0 x0 x1 s1 in
-      let t3 = stands_left f 0 (n1 ++ n2 ++ n3) n4 s0 in
-      let t2 = stands_left f 0 (n1 ++ n2) n3 t3 in
-      let l2 : length (n1 ++ n2) ≡ 4 = simp (length-append, length_number) in
-      let l3 : length (n1 ++ n2 ++ n3) ≡ 6 = simp (length-append, length_number) in
-      let e0 : length x0 ≡ 8 = simp (length-append, length_number) in
+      let counts = each_stands f 0 0 ((2, length d.currencies) ∷ (2, length d.members) ∷ (2, length d.instructions) ∷ (2, length d.steps) ∷ []) s0 in
+      let e0 : length x0 ≡ 8 = refl in
       let k1 = length_joined currency_bytes 10 d.currencies currency_sizes in
       let k2 = length_joined member_bytes (24 + 4 * length d.currencies) d.members member_sizes in
       let k3 = length_joined instruction_bytes 16 d.instructions instruction_sizes in
@@ -90,10 +79,10 @@ module _ (d : DayRecords) (ok : Sound d) where
       let e2 : length (x0 ++ x1 ++ x2) ≡ at2 = length-append (x0 ++ x1) x2 ∙ rw (e1, k2) in
       let e3 : length (x0 ++ x1 ++ x2 ++ x3) ≡ at3 = length-append (x0 ++ x1 ++ x2) x3 ∙ rw (e2, k3) in
       record {
-        currencies = stands_two f 0 (length d.currencies) (omega arith) (stands_left f 0 n1 n2 t2);
-        members = stands_two f 2 (length d.members) (omega arith) (stands_after 2 f 0 n1 n2 (length_number 2 (length d.currencies)) t2);
-        instructions = stands_two f 4 (length d.instructions) (omega arith) (stands_after 4 f 0 (n1 ++ n2) n3 l2 t3);
-        steps = stands_two f 6 (length d.steps) (omega arith) (stands_after 6 f 0 (n1 ++ n2 ++ n3) n4 l3 s0);
+        currencies = stands_two f 0 (length d.currencies) (omega arith) counts.0;
+        members = stands_two f 2 (length d.members) (omega arith) counts.1.0;
+        instructions = stands_two f 4 (length d.instructions) (omega arith) counts.1.1.0;
+        steps = stands_two f 6 (length d.steps) (omega arith) counts.1.1.1.0;
         currencies_at = stands_after 8 f 0 x0 x1 e0 s1;
         members_at = rw (zero-add at1) at (stands_after at1 f 0 (x0 ++ x1) x2 e1 s2);
         instructions_at = rw (zero-add at2) at (stands_after at2 f 0 (x0 ++ x1 ++ x2) x3 e2 s3);
@@ -167,7 +156,7 @@ module _ (d : DayRecords) (ok : Sound d) where
         let fit : length_wrong f ≡ false = or_from _ _ (le-ltb (length f) 8 (omega arith)) (le-ltb 40000 (length f) (omega arith)) in
         let few-enough : counts_wrong f ≡ false = counts in
         let complete : form_wrong f ≡ false = not_from_true _ (eq-eqb (length f) (step_at f (steps_in f)) whole) in
-        let known : first_of (listed (steps_in f) (kind_cause f)) ≡ None = none_listed (steps_in f) (kind_cause f) (λ k b.
+        let known : first_of (listed (steps_in f) (kind_cause f)) ≡ None = none_of (kind_cause f) (steps_in f) (λ k b.
         let in' : k < length d.steps = omega arith in
         not_from_true _ (step_back f (step_at f k) (get_or d.steps k settle) (All-get_or StepFits d.steps k settle in' fits.steps) (step_stands k settle b)).1) in
         rw (fit, few-enough, complete, known)

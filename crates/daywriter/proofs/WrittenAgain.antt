@@ -1,5 +1,5 @@
 -- Records that are read and written again.
-use Rattle.std.proofs.Common.{◌≡◌, ℕ, zero, suc, ◌+◌, ◌-◌, ◌*◌, ◌<◌, ◌≤◌, true, false, cond, eqb, leb, List, ◌++◌, length, take, drop, replicate, sym, refl, ap, ◌∙◌, subst, ⊎_elim, add_assoc, arith}
+use Rattle.std.proofs.Common.{◌≡◌, ℕ, zero, suc, ◌+◌, ◌-◌, ◌*◌, ◌<◌, ◌≤◌, true, false, cond, eqb, leb, List, [], ◌∷◌, ◌++◌, length, add-zero, append_assoc, take, drop, replicate, sym, refl, ap, ◌∙◌, subst, ⊎_elim, add_assoc, arith}
 use Rattle.std.specs.List.{flat_map, AllByRecursion}
 use Rattle.std.proofs.lemmas.List.{length-append, length-replicate, length-take-le, length-drop, take-append-drop, get_or-take, get_or-drop, get_or-replicate, get_or_past, ext_get_or}
 use Rattle.std.proofs.lemmas.Bool.{le-ltb, eqb-false, eqb-true, ne_eqb, or_from, cases_lt, cases_Bool, cases_eq, and_parts, leb-true}
@@ -8,8 +8,9 @@ use Rattle.rules.specs.FileForm.{byte, two_bytes, four_bytes, eight_bytes, known
 use Rattle.rules.specs.FileRecords.{MemberRecord, pay_in, clock, settle, pay_out, part, trimmed, trimmed_length, currency_from, member_from, instruction_from, step_from}
 use Rattle.rules.specs.FileWriting.{number_bytes, name_bytes, currency_bytes, member_bytes, instruction_bytes, step_bytes, name_wrong}
 use Rattle.rules.specs.FileAgain.{kept, pays, cleared_step}
+use Rattle.dayfile.proofs.Parts.{length_part}
 use Rattle.daywriter.proofs.Numbers.{length_number}
-use Rattle.daywriter.proofs.Standing.{Stands, length_part, part_split, stands_join, one_stands, two_stands, four_stands, eight_stands, nth_stand}
+use Rattle.daywriter.proofs.Standing.{Stands, part_split, numbers_bytes, stands_join, all_stand, one_stands, two_stands, four_stands, eight_stands, nth_stand}
 
 -- the end of a name's field
 kept_within : (s : List ℕ) (n : ℕ) → trimmed_length s n ≤ n
@@ -89,19 +90,12 @@ by_kind k m c h a known = ⊎_elim
 
 module _ (f : List ℕ) (bytes : AllByRecursion (λ b. b < 256) f) where
   pub currency_again : (i : ℕ) → i + 10 ≤ length f → (length (currency_bytes (currency_from f i)) ≡ 10) × Stands f i (currency_bytes (currency_from f i))
-  unfolding currency_bytes
+  unfolding currency_bytes number_bytes
   currency_again i h =
-      let x1 = part f i 3 in
-      let x2 = number_bytes 1 (byte f (i + 3)) in
-      let x3 = number_bytes 4 (four_bytes f (i + 4)) in
-      let x4 = number_bytes 2 (two_bytes f (i + 8)) in
-      let l1 : length x1 ≡ 3 = length_part f i 3 (omega arith) in
-      let l2 : length (x1 ++ x2) ≡ 4 = length-append x1 x2 ∙ omega (arith, length_number 1 (byte f (i + 3))) in
-      let l3 : length (x1 ++ x2 ++ x3) ≡ 8 = length-append (x1 ++ x2) x3 ∙ omega (arith, length_number 4 (four_bytes f (i + 4))) in
-      let l4 : length (x1 ++ x2 ++ x3 ++ x4) ≡ 10 = length-append (x1 ++ x2 ++ x3) x4 ∙ omega (arith, length_number 2 (two_bytes f (i + 8))) in
-      let s2 = then 3 f i x1 x2 l1 (part_stands f i 3 (omega arith)) (one_stands f (i + 3) bytes (omega arith)) in
-      let s3 = then 4 f i (x1 ++ x2) x3 l2 s2 (four_stands f (i + 4) bytes (omega arith)) in
-      (l4, then 8 f i (x1 ++ x2 ++ x3) x4 l3 s3 (two_stands f (i + 8) bytes (omega arith)))
+      let xs : List (ℕ × ℕ) = (1, byte f (i + 3)) ∷ (4, four_bytes f (i + 4)) ∷ (2, two_bytes f (i + 8)) ∷ [] in
+      let l : length (part f i 3) ≡ 3 = length_part f i 3 (omega arith) in
+      let numbers = all_stand f i 3 xs (omega arith) (one_stands f (i + 3) bytes (omega arith), (four_stands f (i + 4) bytes (omega arith), (two_stands f (i + 8) bytes (omega arith), tt))) in
+      (simp (length-append, l), simp append_assoc (then 3 f i (part f i 3) (numbers_bytes xs) l (part_stands f i 3 (omega arith)) numbers))
 
   pub member_again : (n i : ℕ) → i + 24 + 4 * n ≤ length f → (length (member_bytes (member_from f n i)) ≡ 24 + 4 * n) × Stands f i (member_bytes (member_from f n i))
   unfolding member_bytes
@@ -118,26 +112,12 @@ module _ (f : List ℕ) (bytes : AllByRecursion (λ b. b < 256) f) where
       (length-append (x1 ++ x2) x3 ∙ omega (arith, limits.0), then 24 f i (x1 ++ x2) x3 l2 s2 limits.1)
 
   pub instruction_again : (i : ℕ) → i + 16 ≤ length f → Stands f i (instruction_bytes (instruction_from f i))
-  unfolding instruction_bytes
+  unfolding instruction_bytes number_bytes
   instruction_again i h =
-      let x1 = number_bytes 1 (byte f i) in
-      let x2 = number_bytes 1 (byte f (i + 1)) in
-      let x3 = number_bytes 1 (byte f (i + 2)) in
-      let x4 = number_bytes 1 (byte f (i + 3)) in
-      let x5 = number_bytes 4 (four_bytes f (i + 4)) in
-      let x6 = number_bytes 4 (four_bytes f (i + 8)) in
-      let x7 = number_bytes 4 (four_bytes f (i + 12)) in
-      let l2 : length (x1 ++ x2) ≡ 2 = simp (length-append, length_number) in
-      let l3 : length (x1 ++ x2 ++ x3) ≡ 3 = simp (length-append, length_number) in
-      let l4 : length (x1 ++ x2 ++ x3 ++ x4) ≡ 4 = simp (length-append, length_number) in
-      let l5 : length (x1 ++ x2 ++ x3 ++ x4 ++ x5) ≡ 8 = simp (length-append, length_number) in
-      let l6 : length (x1 ++ x2 ++ x3 ++ x4 ++ x5 ++ x6) ≡ 12 = simp (length-append, length_number) in
-      let s2 = then 1 f i x1 x2 (length_number 1 (byte f i)) (one_stands f i bytes (omega arith)) (one_stands f (i + 1) bytes (omega arith)) in
-      let s3 = then 2 f i (x1 ++ x2) x3 l2 s2 (one_stands f (i + 2) bytes (omega arith)) in
-      let s4 = then 3 f i (x1 ++ x2 ++ x3) x4 l3 s3 (one_stands f (i + 3) bytes (omega arith)) in
-      let s5 = then 4 f i (x1 ++ x2 ++ x3 ++ x4) x5 l4 s4 (four_stands f (i + 4) bytes (omega arith)) in
-      let s6 = then 8 f i (x1 ++ x2 ++ x3 ++ x4 ++ x5) x6 l5 s5 (four_stands f (i + 8) bytes (omega arith)) in
-      then 12 f i (x1 ++ x2 ++ x3 ++ x4 ++ x5 ++ x6) x7 l6 s6 (four_stands f (i + 12) bytes (omega arith))
+      let one : (o : ℕ) → i + o + 1 ≤ length f → Stands f (i + o) (number_bytes 1 (byte f (i + o))) = λ o b. one_stands f (i + o) bytes b in
+      let four : (o : ℕ) → i + o + 4 ≤ length f → Stands f (i + o) (number_bytes 4 (four_bytes f (i + o))) = λ o b. four_stands f (i + o) bytes b in
+      let xs : List (ℕ × ℕ) = (1, byte f (i + 0)) ∷ (1, byte f (i + 1)) ∷ (1, byte f (i + 2)) ∷ (1, byte f (i + 3)) ∷ (4, four_bytes f (i + 4)) ∷ (4, four_bytes f (i + 8)) ∷ (4, four_bytes f (i + 12)) ∷ [] in
+      rw (add-zero i) at (all_stand f i 0 xs (omega arith) (one 0 (omega arith), (one 1 (omega arith), (one 2 (omega arith), (one 3 (omega arith), (four 4 (omega arith), (four 8 (omega arith), (four 12 (omega arith), tt))))))))
 
   -- a number of w bytes, as the bytes that stand there
   written_part : (w i n : ℕ) → Stands f i (number_bytes w n) → part f i w ≡ number_bytes w n

@@ -4,6 +4,7 @@
 ghost use Rattle.rules.specs.FileAgain.{WrittenReadsBack, ReadIsWrittenAgain};
 
 mod faults;
+mod fields;
 mod putting;
 mod records;
 mod writing;

@@ -1,7 +1,11 @@
+ghost use Rattle.std.specs.Prelude.{◌≡◌};
+ghost use Rattle.daywriter.specs.declared.records.Unwritten.TheVariants as unwritten;
+
 use dayfile::{CurrencyRecord, InstructionRecord, StepRecord};
+use std::alloc::AllocError;
 
 /// A member's record to be written: its name without the spaces that fill it up, and its limits.
-#[derive(Clone, Copy)]
+#[derive(Clone, Copy, Debug, PartialEq, Eq)]
 pub struct NewMember<'a> {
     pub name: &'a [u8],
     /// In marks, over all currencies.
@@ -11,7 +15,7 @@ pub struct NewMember<'a> {
 }
 
 /// The records of a day file, kind by kind.
-#[derive(Clone, Copy)]
+#[derive(Clone, Copy, Debug, PartialEq, Eq)]
 pub struct DayRecords<'a> {
     pub currencies: &'a [CurrencyRecord<'a>],
     pub members: &'a [NewMember<'a>],
@@ -20,7 +24,7 @@ pub struct DayRecords<'a> {
 }
 
 /// Why no day file has such records.
-#[derive(Clone, Copy)]
+#[derive(Clone, Copy, Debug, PartialEq, Eq)]
 pub enum Fault {
     /// There are more records of a kind than a file has at most.
     TooMany,
@@ -33,8 +37,24 @@ pub enum Fault {
 }
 
 /// Why nothing was written.
-#[derive(Clone, Copy)]
+#[derive(Clone, Copy, Debug, PartialEq, Eq)]
 pub enum Unwritten {
     Fault(Fault),
     NoMemory,
+}
+
+impl From<Fault> for Unwritten {
+    ghost from_gives = { λ fault e. e ≡ unwritten.Fault fault };
+
+    fn from(fault: Fault) -> Unwritten {
+        Unwritten::Fault(fault)
+    }
+}
+
+impl From<AllocError> for Unwritten {
+    ghost from_gives = { λ _ e. e ≡ unwritten.NoMemory };
+
+    fn from(_: AllocError) -> Unwritten {
+        Unwritten::NoMemory
+    }
 }

@@ -1,10 +1,11 @@
 //! The bytes of a day file, from its records.
-ghost use Rattle.std.specs.Prelude.{◌≡◌, ◌++◌, OnOk};
-ghost use Rattle.rules.specs.FileWriting.{count_bytes, day_bytes};
+ghost use Rattle.std.specs.Prelude.{◌≡◌, ◌++◌, false, OnOk};
+ghost use Rattle.std.specs.List.{flat_map};
+ghost use Rattle.rules.specs.FileWriting.{number_bytes, has_too_many, count_bytes, day_bytes};
 ghost use Rattle.rules.specs.FileAgain.{Fits};
 ghost use Rattle.daywriter.specs.Meaning.{day_of, Wrote};
 
-use crate::putting::{put_all, put_number};
+use crate::putting::put_all;
 use crate::records::{DayRecords, Unwritten};
 use std::alloc::{AllocError, Global};
 
@@ -13,36 +14,34 @@ impl DayRecords<'_> {
     pub fn write(self, heap: Global) -> Result<Vec<u8>, Unwritten>
         ensures { Wrote (day_of self.entry) result }
     {
-        if let Some(fault) = self.fault() {
-            return Err(Unwritten::Fault(fault));
-        }
+        self.check()?;
         let mut out = Vec::new(heap);
-        match self.put_records(&mut out) {
-            Ok(()) => Ok(out),
-            Err(_) => Err(Unwritten::NoMemory),
-        }
+        self.put_records(&mut out)?;
+        Ok(out)
     }
 
-    // Puts the counts, and after them all records.
+    // Puts the counts, and after them all records. Each kind has a type of its own, so no one list holds them all.
     fn put_records(self, out: &mut Vec<u8>) -> Result<(), AllocError>
+        requires { has_too_many (day_of self) ≡ false }
         ensures { OnOk result ((out.new.items ≡ out.old.items ++ day_bytes (day_of self.entry)) × Fits (day_of self.entry)) }
     {
-        self.put_counts(out)?;
+        put_all(out, &self.counts())?;
         put_all(out, self.currencies)?;
         put_all(out, self.members)?;
         put_all(out, self.instructions)?;
-        put_all(out, self.steps)?;
-        Ok(())
+        put_all(out, self.steps)
     }
 
-    // Puts how many records of each kind there are.
-    fn put_counts(self, out: &mut Vec<u8>) -> Result<(), AllocError>
-        ensures { OnOk result (out.new.items ≡ out.old.items ++ count_bytes (day_of self.entry)) }
+    // How many records of each kind there are. Each is at most its most, and so fits two bytes.
+    fn counts(self) -> [u16; 4]
+        requires { has_too_many (day_of self) ≡ false }
+        ensures { flat_map (number_bytes 2) result ≡ count_bytes (day_of self.entry) }
     {
-        put_number(out, self.currencies.len() as u64, 2)?;
-        put_number(out, self.members.len() as u64, 2)?;
-        put_number(out, self.instructions.len() as u64, 2)?;
-        put_number(out, self.steps.len() as u64, 2)?;
-        Ok(())
+        [
+            self.currencies.len() as u16,
+            self.members.len() as u16,
+            self.instructions.len() as u16,
+            self.steps.len() as u16,
+        ]
     }
 }

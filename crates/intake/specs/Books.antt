@@ -1,12 +1,15 @@
 -- What an intake means in the terms of the rules.
-use Rattle.std.specs.Prelude.{◌≡◌, List, Ok, Err, vec_items, vec_len, Result, slice_index_or}
+use Rattle.std.specs.Prelude.{◌≡◌, List, Ok, Err, vec_items, vec_len, Result, Vec, slice_index_or}
 use Rattle.rules.specs.First.{Case}
 use Rattle.rules.specs.Refusals.{Refusal}
 use Rattle.rules.specs.Matching as rules
-use Rattle.refusal.specs.declared.refused.NoMemory.{NoMemory}
+use Rattle.std.specs.declared.alloc.AllocFailed.{AllocFailed}
+use Rattle.std.specs.declared.alloc.Global.{Global}
 use Rattle.intake.specs.declared.instruction.Instruction.{Instruction}
 use Rattle.intake.specs.declared.intake.Intake.{Intake}
+use Rattle.intake.specs.declared.pair.Pair.{Pair}
 use Rattle.intake.specs.declared.roster.Roster.{Roster}
+use Rattle.book.specs.declared.row.Row.{Row}
 use Rattle.intake.specs.Ranges.{no_amount}
 use Rattle.intake.specs.Rosters.{terms_of}
 use Rattle.intake.specs.Parties.{no_pair, pair_of}
@@ -26,11 +29,26 @@ book_of x = record {
   pair = λ k. pair_of (slice_index_or (vec_items x.pairs) k no_pair);
 }
 
+-- the roster that an intake stands over
+abbrev pub roster_under : Intake → Roster
+roster_under x = x.roster
+
+-- the memory that an intake keeps for the session: for its queue and for its rows
+abbrev pub kept_for_queue : Intake → Vec Pair Global
+kept_for_queue x = x.queue
+
+abbrev pub kept_for_rows : Intake → Vec Row Global
+kept_for_rows x = x.rows
+
+-- the pairs of an intake, in the order of matching
+abbrev pub pairs_of : Intake → Vec Pair Global
+pairs_of x = x.pairs
+
 -- why the intake refuses an instruction
 abbrev pub causes_against : Intake → Instruction → List (Case Refusal)
 causes_against x i = rules.instruction_causes (terms_of x.roster) (book_of x) (instruction_of i)
 
 -- an empty intake over the roster, or the roster back
-abbrev pub Begun : Roster → Result Intake (NoMemory Roster) → Type 0
+abbrev pub Begun : Roster → Result Intake (AllocFailed Roster) → Type 0
 Begun roster (Ok x) = (book_of x ≡ record { kept = 0; instruction = λ _. instruction_of no_instruction; matched = 0; pair = λ _. pair_of no_pair }) × (x.roster ≡ roster)
-Begun roster (Err e) = e.given ≡ roster
+Begun roster (Err e) = e.value ≡ roster

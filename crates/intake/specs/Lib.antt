@@ -1,4 +1,6 @@
 pub mod Ranges
+pub mod Checks
+pub mod Room
 pub mod Members
 pub mod Rosters
 pub mod Parties

@@ -1,6 +1,7 @@
-ghost use Rattle.std.specs.Prelude.{◌≡◌, ℕ, ◌≤◌, vec_len, vec_capacity};
+ghost use Rattle.std.specs.Prelude.{ℕ, ◌≤◌, vec_len, vec_capacity};
 ghost use Rattle.rules.specs.Bounds.{most_instructions, most_members};
 ghost use Rattle.sheet.specs.Meaning.{sheet_of};
+ghost use Rattle.intake.specs.Room.{EmptyFor};
 ghost use Rattle.intake.specs.Parties.{Listed, Counted};
 
 use crate::instruction::Instruction;
@@ -23,6 +24,6 @@ pub struct Intake {
     ghost room: { (most_instructions ≤ vec_capacity kept) × (most_instructions ≤ vec_capacity pairs) },
     ghost listed: { Listed pairs.items (vec_len roster.members) (sheet_of roster.sheet).currencies },
     ghost counted: { Counted pairs.items },
-    ghost unqueued: { (vec_len queue ≡ 0) × (most_instructions ≤ vec_capacity queue) },
-    ghost unfilled: { (vec_len rows ≡ 0) × (most_members ≤ vec_capacity rows) },
+    ghost unqueued: { EmptyFor most_instructions queue },
+    ghost unfilled: { EmptyFor most_members rows },
 }

@@ -2,7 +2,6 @@
 #![tactic(auto)]
 
 mod adding;
-mod bounds;
 mod instruction;
 mod intake;
 mod legs;

@@ -1,17 +1,14 @@
-ghost use Rattle.std.specs.Prelude.{◌≡◌, ℕ, ◌*◌, ◌≤◌, Some, None};
+ghost use Rattle.std.specs.Prelude.{◌≡◌, ℕ, ◌*◌, ◌≤◌, nat_le, not, ◌&&◌};
 ghost use Rattle.rules.specs.Bounds.{most_rate};
 ghost use Rattle.rules.specs.Matching.{mirror, mirrors, same_name, of_pair, off_range, pair_from};
-ghost use Rattle.rules.specs.Refusals as rules;
-ghost use Rattle.refusal.specs.Meaning.{number_of, refusal_of};
 ghost use Rattle.intake.specs.Ranges.{Matched};
 ghost use Rattle.intake.specs.Parties.{pair_of};
 ghost use Rattle.intake.specs.Books.{instruction_of};
 
-use crate::bounds::MOST_UNITS;
 use crate::instruction::Instruction;
 use crate::pair::Pair;
-use refusal::{Cause, Layer, Refusal};
-use units::Marks;
+use rules::MOST_UNITS;
+use units::{Amount, Marks};
 
 impl Instruction {
     /// The same trade as the counterparty asks for it.
@@ -33,13 +30,7 @@ impl Instruction {
     pub fn mirrors(&self, other: &Instruction) -> bool
         ensures { result ≡ mirrors (instruction_of self.now) (instruction_of other.now) }
     {
-        self.submitter == other.counterparty
-            && self.counterparty == other.submitter
-            && self.buys == other.sells
-            && self.bought.0 == other.sold.0
-            && self.sells == other.buys
-            && self.sold.0 == other.bought.0
-            && self.reference == other.reference
+        *self == other.mirror()
     }
 
     pub(crate) fn is_named_as(&self, other: &Instruction) -> bool
@@ -51,25 +42,11 @@ impl Instruction {
     pub(crate) fn is_off_range(&self) -> bool
         ensures { result ≡ off_range (instruction_of self.now) }
     {
-        self.bought.0 < 1
-            || self.bought.0 > MOST_UNITS
-            || self.sold.0 < 1
-            || self.sold.0 > MOST_UNITS
+        let is_off = |amount: Amount| !(1..=MOST_UNITS).contains(&amount.0);
+        is_off(self.bought) || is_off(self.sold)
     }
 
-    pub(crate) fn refusal(&self, cause: Cause) -> Refusal
-        ensures { refusal_of result ≡ record { number = number_of cause; layer = rules.intake; member = Some self.now.submitter; currency = Some self.now.buys; place = 0 } }
-    {
-        Refusal {
-            cause,
-            layer: Layer::Intake,
-            member: Some(self.submitter),
-            currency: Some(self.buys),
-            place: 0,
-        }
-    }
-
-    /// The pair whose first party submitted this instruction.
+    // The pair whose first party submitted this instruction.
     pub(crate) fn pair(&self, number: u32, rate: u32) -> Pair
         requires { (Matched self.now.submitter self.now.counterparty self.now.buys self.now.bought.0 self.now.sells self.now.sold.0) × (rate ≤ most_rate) }
         ensures { pair_of result ≡ pair_from (λ _. rate) number (instruction_of self.now) }
@@ -92,6 +69,6 @@ impl Pair {
     pub(crate) fn is_of(&self, i: &Instruction) -> bool
         ensures { result ≡ of_pair (pair_of self.now) (instruction_of i.now) }
     {
-        (self.first == i.submitter || self.second == i.submitter) && self.reference == i.reference
+        self.has_party(i.submitter) && self.reference == i.reference
     }
 }

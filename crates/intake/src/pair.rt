@@ -3,7 +3,7 @@ ghost use Rattle.intake.specs.Ranges.{Matched};
 use units::{Amount, Marks};
 
 /// Two instructions that matched: `first` buys `bought` of `buys` from `second`, for `sold` of `sells`.
-#[derive(Clone, Copy)]
+#[derive(Clone, Copy, Debug, PartialEq, Eq)]
 pub struct Pair {
     pub number: u32,
     /// The party whose instruction came first.

@@ -1,4 +1,2 @@
 mod Filter
 mod Passing
-mod Left
-mod Numbers

@@ -1,5 +1,5 @@
 -- Settle, pass by pass.
-use Rattle.std.proofs.Common.{◌≡◌, ℕ, zero, suc, ◌+◌, ◌-◌, ◌<◌, ◌≤◌, List, [], ◌∷◌, map, length, ℤ, vec_items, sym, refl, ap, ◌∙◌, arith}
+use Rattle.std.proofs.Common.{◌≡◌, ℕ, zero, suc, ◌+◌, ◌-◌, ◌<◌, ◌≤◌, List, [], ◌∷◌, length, ℤ, sym, refl, ap, ◌∙◌, arith}
 use Rattle.std.proofs.lemmas.List.{length-append}
 use Rattle.rules.specs.Pairs as rules
 use Rattle.rules.specs.Pairs.{after_pair}
@@ -8,34 +8,30 @@ use Rattle.rules.specs.Settle.{Passed, pass, Settled, passes, and_before}
 use Rattle.rules.proofs.Pass.{pass_cases, passes_cases, pass-length}
 use Rattle.ledger.specs.declared.ledger.Ledger.{Ledger}
 use Rattle.accounts.specs.Meaning.{setting_within, account, reserve_of}
-use Rattle.intake.specs.Parties.{pair_of}
 use Rattle.accounts.specs.Moves.{Moves}
+use Rattle.ledger.specs.Meaning.{queue_of}
 use Rattle.ledger.specs.Turns.{passed, Leaves, settled_all}
-use Rattle.ledger.proofs.Filter.{same_setting, settled_in, then_moves, comes_over}
+use Rattle.ledger.proofs.Filter.{same_setting, goes_on, comes_over}
 
 -- a pass that settles nothing changes nothing
-pub idle : (s : Setting) (r : ℕ → ℕ → ℕ) (b : ℕ → ℕ → ℤ) (ws : List rules.Pair) → length (pass s r b ws).settled ≡ 0 → ((pass s r b ws).balances ≡ b) × ((pass s r b ws).waiting ≡ ws)
+idle : (s : Setting) (r : ℕ → ℕ → ℕ) (b : ℕ → ℕ → ℤ) (ws : List rules.Pair) → length (pass s r b ws).settled ≡ 0 → ((pass s r b ws).balances ≡ b) × ((pass s r b ws).waiting ≡ ws)
 unfolding pass
 idle s r b [] z = (refl, refl)
 idle s r b (p ∷ ps) z = pass_cases s r b p ps (λ x. length x.settled ≡ 0 → (x.balances ≡ b) × (x.waiting ≡ p ∷ ps))
     (λ e z. absurd (omega arith))
     (λ t e z. let h = idle s r b ps z in (h.0, ap (λ (qs : List rules.Pair). p ∷ qs) h.1)) z
 
-pub passes_stop : (k : ℕ) (s : Setting) (r : ℕ → ℕ → ℕ) (b : ℕ → ℕ → ℤ) (ws : List rules.Pair) → length (pass s r b ws).settled ≡ 0 → passes k s r b ws ≡ record { balances = b; settled = []; waiting = ws; made = 1 }
+passes_stop : (k : ℕ) (s : Setting) (r : ℕ → ℕ → ℕ) (b : ℕ → ℕ → ℤ) (ws : List rules.Pair) → length (pass s r b ws).settled ≡ 0 → passes k s r b ws ≡ record { balances = b; settled = []; waiting = ws; made = 1 }
 unfolding passes
 passes_stop zero s r b ws z = refl
 passes_stop (suc k) s r b ws z = passes_cases k s r b ws (λ x. x ≡ record { balances = b; settled = []; waiting = ws; made = 1 }) (λ _. refl) (λ l. absurd (omega arith))
 
-passes_suc : (k : ℕ) (s : Setting) (r : ℕ → ℕ → ℕ) (b : ℕ → ℕ → ℤ) (ws : List rules.Pair) → 0 < length (pass s r b ws).settled → passes (suc k) s r b ws ≡ and_before (pass s r b ws).settled (passes k s r (pass s r b ws).balances (pass s r b ws).waiting)
-passes_suc k s r b ws l = passes_cases k s r b ws (λ x. x ≡ and_before (pass s r b ws).settled (passes k s r (pass s r b ws).balances (pass s r b ws).waiting)) (λ z. absurd (omega arith)) (λ _. refl)
-
-pub passes_go : (j k : ℕ) (s : Setting) (r : ℕ → ℕ → ℕ) (b : ℕ → ℕ → ℤ) (ws : List rules.Pair) → j ≡ k + 1 → 0 < length (pass s r b ws).settled → passes j s r b ws ≡ and_before (pass s r b ws).settled (passes k s r (pass s r b ws).balances (pass s r b ws).waiting)
-passes_go j k s r b ws e l = let f : j ≡ suc k = omega arith in ap (λ (n : ℕ). passes n s r b ws) f ∙ passes_suc k s r b ws l
+passes_go : (j k : ℕ) (s : Setting) (r : ℕ → ℕ → ℕ) (b : ℕ → ℕ → ℤ) (ws : List rules.Pair) → j ≡ k + 1 → 0 < length (pass s r b ws).settled → passes j s r b ws ≡ and_before (pass s r b ws).settled (passes k s r (pass s r b ws).balances (pass s r b ws).waiting)
+passes_go j k s r b ws e l =
+    let f : j ≡ suc k = omega arith in
+    rw f (passes_cases k s r b ws (λ x. x ≡ and_before (pass s r b ws).settled (passes k s r (pass s r b ws).balances (pass s r b ws).waiting)) (λ z. absurd (omega arith)) (λ _. refl))
 
 -- how far settle has come: from the ledger o, passes that settled `done` pairs were made, and the ledger is n
-abbrev pub queue_of : Ledger → List rules.Pair
-queue_of x = map pair_of (vec_items x.waiting)
-
 abbrev pub still : Ledger → Ledger → ℕ → Settled
 still o n made = passes (length (queue_of o) - made) (setting_within o.accounts) (reserve_of o.accounts) (account n.accounts) (queue_of n)
 
@@ -49,22 +45,6 @@ pub record UnderWay (o n : Ledger) (done made : ℕ) : Type 0 where
   pub waiting_are : (settled_all o).waiting ≡ (still o n made).waiting
   pub settled_are : length (settled_all o).settled ≡ done + length (still o n made).settled
   pub made_are : (settled_all o).made ≡ made + (still o n made).made
-
-pub begun : (o : Ledger) → UnderWay o o 0 0
-begun o =
-    let z : length (queue_of o) ≡ length (queue_of o) - 0 = omega arith in
-    let e = ap (λ (k : ℕ). passes k (setting_within o.accounts) (reserve_of o.accounts) (account o.accounts) (queue_of o)) z in
-    record {
-      holdings = record { accounts = refl; reserves = refl; ins = refl; outs = refl; sheets = refl; rosters = refl };
-      pairs_stay = refl;
-      hour_stays = refl;
-      shorter = omega arith;
-      fewer = omega arith;
-      balances_are = ap (λ (x : Settled). x.balances) e;
-      waiting_are = ap (λ (x : Settled). x.waiting) e;
-      settled_are = (let h = ap (λ (x : Settled). length x.settled) e in omega arith);
-      made_are = (let h = ap (λ (x : Settled). x.made) e in omega arith);
-    }
 
 module _ (o n n' : Ledger) (done made : ℕ) (h : UnderWay o n done made) (t : Leaves n n' (passed n).balances (passed n).waiting) where
   abbrev now : Passed
@@ -90,7 +70,7 @@ module _ (o n n' : Ledger) (done made : ℕ) (h : UnderWay o n done made) (t : L
       ∙ (λ j. and_before now.settled (passes (length (queue_of o) - (made + 1)) (setting_within o.accounts) (reserve_of o.accounts) (sym after j) (sym waits j))) in
       let more = length-append now.settled (still o n' (made + 1)).settled in
       record {
-        holdings = settled_in _ _ _ (then_moves _ _ _ _ _ h.holdings t.holdings);
+        holdings = goes_on _ _ _ _ _ h.holdings t.holdings;
         pairs_stay = t.pairs_stay ∙ h.pairs_stay;
         hour_stays = t.hour_stays ∙ h.hour_stays;
         shorter = (let w = ap length waits in omega (arith, h.shorter));
@@ -108,7 +88,7 @@ module _ (o n n' : Ledger) (done made : ℕ) (h : UnderWay o n done made) (t : L
       let e = passes_stop (length (queue_of o) - made) (setting_within o.accounts) (reserve_of o.accounts) (account n.accounts) (queue_of n) z' in
       let bal : account n'.accounts ≡ (settled_all o).balances = after ∙ i.0 ∙ sym (h.balances_are ∙ ap (λ (x : Settled). x.balances) e) in
       let wai : queue_of n' ≡ (settled_all o).waiting = waits ∙ i.1 ∙ sym (h.waiting_are ∙ ap (λ (x : Settled). x.waiting) e) in (
-        record { holdings = comes_over _ _ _ (settled_in _ _ _ (then_moves _ _ _ _ _ h.holdings t.holdings)) bal; waits = wai; pairs_stay = t.pairs_stay ∙ h.pairs_stay; hour_stays = t.hour_stays ∙ h.hour_stays },
+        record { holdings = comes_over _ _ _ (goes_on _ _ _ _ _ h.holdings t.holdings) bal; waits = wai; pairs_stay = t.pairs_stay ∙ h.pairs_stay; hour_stays = t.hour_stays ∙ h.hour_stays },
         (let w = ap (λ (x : Settled). length x.settled) e in omega (arith, h.settled_are)),
         (let w = ap (λ (x : Settled). x.made) e in omega (arith, h.made_are)),
         ap length wai,

@@ -3,10 +3,10 @@
 
 mod counts;
 mod ledger;
+mod named;
 mod offers;
 mod positions;
 mod questions;
-mod refused;
 mod settle;
 mod sums;
 

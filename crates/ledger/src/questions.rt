@@ -1,12 +1,15 @@
 ghost use Rattle.std.specs.Prelude.{◌≡◌, ℕ, false, List, map};
+ghost use Rattle.std.specs.Option.{option_map};
+ghost use Rattle.rules.specs.Questions.{numbered};
 ghost use Rattle.accounts.specs.Meaning.{setting_within};
 ghost use Rattle.intake.specs.Parties.{pair_of};
-ghost use Rattle.ledger.specs.Meaning.{setting_by, books_within};
-ghost use Rattle.ledger.specs.Questions.{AccountAsked, DueAsked, PairAsked, Found};
+ghost use Rattle.ledger.specs.Meaning.{setting_by, books_within, queue_of};
+ghost use Rattle.ledger.specs.Questions.{AccountAsked, DueAsked, PairAsked};
 
 use crate::ledger::Ledger;
-use crate::refused::refused;
+use crate::named::Named;
 use accounts::Stop;
+use intake::Pair;
 use refusal::{Cause, Layer, Refusal};
 use units::{Amount, Units};
 
@@ -15,59 +18,39 @@ impl Ledger {
     pub fn account(&self, member: u8, currency: u8) -> Result<Units, Refusal>
         ensures { AccountAsked (setting_within self.now.accounts) (books_within self.now) member currency result }
     {
-        if usize::from(member) >= self.accounts.members.len() {
-            return Err(refused(Cause::Member, member, currency));
-        }
-        if currency >= self.accounts.sheet.len() {
-            return Err(refused(Cause::Currency, member, currency));
-        }
-        Ok(self.accounts.book.position(member, currency).account)
+        let p = self.position_of(Named { member, currency })?;
+        Ok(p.account)
     }
 
     /// The amount due of a member in a currency at the present hour.
     pub fn amount_due(&self, member: u8, currency: u8) -> Result<Amount, Refusal>
         ensures { DueAsked (setting_by (λ p q. false) self.now) (books_within self.now) member currency result }
     {
-        if usize::from(member) >= self.accounts.members.len() {
-            return Err(refused(Cause::Member, member, currency));
-        }
-        let paid = self.accounts.book.position(member, currency).paid_in;
+        let call = Named { member, currency };
+        let paid = self.position_of(call)?.paid_in;
         let required = self.required(member, currency);
-        match self
+        // The currency has a position, so it is on the sheet.
+        let due = self
             .accounts
             .sheet
             .amount_due(currency, required, self.hour, paid)
-        {
-            Some(due) => Ok(due),
-            None => Err(refused(Cause::Currency, member, currency)),
-        }
+            .unwrap();
+        Ok(due)
     }
 
-    // The place of the waiting pair of a number.
-    fn find(&self, number: u32) -> Option<usize>
-        ensures { Found self.now number result }
+    // The waiting pair of a number.
+    fn waiting_pair(&self, number: u32) -> Option<&Pair>
+        ensures { option_map (λ p. pair_of p.now) result ≡ numbered number (queue_of self.now) }
     {
-        for i in 0..self.waiting.len() {
-            if self.waiting[i].number == number {
-                return Some(i);
-            }
-        }
-        None
+        self.waiting.iter().find(|p| p.number == number)
     }
 
     /// What stops the waiting pair of a number, if anything does.
     pub fn stopped_by(&self, number: u32) -> Result<Option<Stop>, Refusal>
         ensures { PairAsked (setting_within self.now.accounts) (books_within self.now) number result }
     {
-        match self.find(number) {
-            Some(i) => Ok(self.accounts.stopped_by(&self.waiting[i])),
-            None => Err(Refusal {
-                cause: Cause::NoPair,
-                layer: Layer::Session,
-                member: None,
-                currency: None,
-                place: 0,
-            }),
-        }
+        self.waiting_pair(number)
+            .map(|p| self.accounts.stopped_by(p))
+            .ok_or(Refusal::by(Layer::Session, Cause::NoPair))
     }
 }

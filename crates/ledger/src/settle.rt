@@ -1,37 +1,27 @@
 ghost use Rattle.std.specs.Prelude.{◌≡◌, ℕ, ◌<◌, ◌≤◌, length, vec_len};
-ghost use Rattle.ledger.specs.Turns.{Turned, passed, Leaves, settled_all, Counted};
+ghost use Rattle.ledger.specs.Turns.{passed, Leaves, settled_all, Counted};
 
 use crate::counts::Counts;
 use crate::ledger::Ledger;
 
 impl Ledger {
-    // Tests waiting pair i: settles it, or keeps it at place k. The next place.
-    fn turn(&mut self, i: usize, k: usize) -> usize
-        requires { (i < vec_len self.old.waiting) × (k ≤ i) }
-        ensures { Turned self.old self.new i k result }
-    {
-        let p = self.waiting[i];
-        match self.accounts.try_settle(&p) {
-            None => k,
-            Some(_) => {
-                self.waiting[k] = p;
-                k + 1
-            }
-        }
-    }
-
     // One pass over the waiting pairs, each tested once. How many settled.
     fn pass(&mut self) -> usize
         ensures left { Leaves self.old self.new (passed self.old).balances (passed self.old).waiting }
         ensures count { result ≡ length (passed self.old).settled }
     {
+        let before = self.waiting.len();
         let mut place = 0;
-        for i in 0..self.waiting.len() {
-            place = self.turn(i, place);
+        // No `retain`: its contract tells which pairs stay, and not what testing them leaves of the accounts.
+        for i in 0..before {
+            let p = self.waiting[i];
+            if self.accounts.try_settle(&p).is_some() {
+                self.waiting[place] = p;
+                place += 1;
+            }
         }
-        let settled = self.waiting.len() - place;
         self.waiting.truncate(place);
-        settled
+        before - place
     }
 
     /// Makes passes until one settles nothing.
@@ -40,18 +30,15 @@ impl Ledger {
         ensures counts { Counted result (settled_all self.old) }
     {
         let mut settled = 0;
-        let mut passes = 0;
-        loop {
-            let more = self.pass();
-            passes += 1;
-            if more == 0 {
-                return Counts {
-                    settled,
-                    passes,
-                    waiting: self.waiting.len(),
-                };
-            }
+        let mut passes = 1;
+        while let more @ 1.. = self.pass() {
             settled += more;
+            passes += 1;
+        }
+        Counts {
+            settled,
+            passes,
+            waiting: self.waiting.len(),
         }
     }
 }

@@ -1,8 +1,10 @@
 ghost use Rattle.std.specs.Prelude.{◌≡◌, ℕ};
-ghost use Rattle.rules.specs.Nostro.{cash_shown};
-ghost use Rattle.nostro.specs.Cash.{Received, Paid};
+ghost use Rattle.rules.specs.Nostro.{cash_shown, receipt_causes, payment_causes};
+ghost use Rattle.nostro.specs.Cash.{Tested, Received, Paid};
 
-use refusal::Refusal;
+use crate::refusing::refuse_over;
+use refusal::{Cause, Refusal};
+use rules::MOST_SUM;
 use units::Amount;
 
 /// The bank's accounts at its correspondents: where pay-ins arrive and from where payments leave.
@@ -25,4 +27,22 @@ pub trait Nostro {
     /// Refused above number 23, and where the amount exceeds the cash.
     fn pay(&mut self, currency: u8, amount: Amount) -> Result<(), Refusal>
         ensures { Paid (cash self.old) currency amount.0 (cash self.new) result };
+
+    // The two questions are not `final`: the impls' own methods ask them, and such a call of a final method is not covered.
+
+    /// Whether an amount of a currency may be received, and why not.
+    fn may_receive(&self, currency: u8, amount: Amount) -> Result<(), Refusal>
+        ensures { Tested (receipt_causes (cash self.now) currency amount.0) result }
+    {
+        let over = self.cash_in(currency).saturating_add(amount) > Amount(MOST_SUM);
+        refuse_over(over, Cause::CashCeiling, currency)
+    }
+
+    /// Whether an amount of a currency may be paid, and why not.
+    fn may_pay(&self, currency: u8, amount: Amount) -> Result<(), Refusal>
+        ensures { Tested (payment_causes (cash self.now) currency amount.0) result }
+    {
+        let over = amount > self.cash_in(currency);
+        refuse_over(over, Cause::Cash, currency)
+    }
 }

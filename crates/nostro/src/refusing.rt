@@ -1,21 +1,17 @@
-ghost use Rattle.std.specs.Prelude.{◌≡◌, Some, None};
-ghost use Rattle.rules.specs.Refusals as rules;
-ghost use Rattle.refusal.specs.Meaning.{refusal_of, number_of};
+ghost use Rattle.refusal.specs.Meaning.{number_of};
+ghost use Rattle.nostro.specs.Cash.{Tested, causes_over};
 
-use refusal::{Cause, Layer, Refusal};
+use refusal::{Cause, Layer, Refusal, refuse_if};
+use rules::MOST_CURRENCIES;
 
-/// Most units of one currency that a nostro takes in.
-pub(crate) const MOST_CASH: u64 = 1_000_000_000_000;
-
-/// A nostro's refusal in a currency.
-pub(crate) fn refused(cause: Cause, currency: u8) -> Refusal
-    ensures { refusal_of result ≡ record { number = number_of cause; layer = rules.nostro; member = None; currency = Some currency; place = 0 } }
+/// Refuses a number that no currency has, and else, where the amount is over what is allowed, for the cause.
+pub(crate) fn refuse_over(over: bool, cause: Cause, currency: u8) -> Result<(), Refusal>
+    ensures { Tested (causes_over over (number_of cause) currency) result }
 {
-    Refusal {
-        cause,
-        layer: Layer::Nostro,
-        member: None,
-        currency: Some(currency),
-        place: 0,
-    }
+    let refusal = |cause| Refusal::by(Layer::Nostro, cause).in_currency(currency);
+    refuse_if(
+        usize::from(currency) >= MOST_CURRENCIES,
+        refusal(Cause::Currency),
+    )?;
+    refuse_if(over, refusal(cause))
 }

@@ -1,56 +1,47 @@
-ghost use Rattle.std.specs.Prelude.{◌≡◌, ℕ, slice_index};
+ghost use Rattle.std.specs.Prelude.{◌≡◌, ℕ};
+ghost use Rattle.nostro.specs.Holdings.{booked};
 
 use crate::correspondent::Nostro;
-use crate::refusing::{MOST_CASH, refused};
-use refusal::{Cause, Refusal};
+use refusal::Refusal;
+use rules::MOST_CURRENCIES;
 use units::Amount;
 
 /// One correspondent for all currencies, with the cash of each.
-#[derive(Clone, Copy)]
+#[derive(Clone, Copy, Debug, PartialEq, Eq)]
 pub struct SingleBook {
-    cash: [u64; 24],
+    cash: [Amount; MOST_CURRENCIES],
 }
 
 impl SingleBook {
     /// A book with no cash.
     pub fn empty() -> SingleBook
-        ensures { (c : ℕ) → slice_index result.cash c ≡ 0 }
+        ensures { (c : ℕ) → booked result c ≡ 0 }
     {
-        SingleBook { cash: [0; 24] }
+        SingleBook {
+            cash: [Amount(0); MOST_CURRENCIES],
+        }
     }
 }
 
 impl Nostro for SingleBook {
-    ghost cash = { λ s c. slice_index s.cash c };
+    ghost cash = { booked };
 
     fn cash_in(&self, currency: u8) -> Amount {
-        if currency > 23 {
-            return Amount(0);
-        }
-        Amount(self.cash[usize::from(currency)])
+        self.cash
+            .get(usize::from(currency))
+            .copied()
+            .unwrap_or(Amount(0))
     }
 
     fn receive(&mut self, currency: u8, amount: Amount) -> Result<(), Refusal> {
-        if currency > 23 {
-            return Err(refused(Cause::Currency, currency));
-        }
-        let cash = self.cash[usize::from(currency)];
-        if cash > MOST_CASH || amount.0 > MOST_CASH - cash {
-            return Err(refused(Cause::CashCeiling, currency));
-        }
-        self.cash[usize::from(currency)] = cash + amount.0;
+        self.may_receive(currency, amount)?;
+        self.cash[usize::from(currency)] += amount;
         Ok(())
     }
 
     fn pay(&mut self, currency: u8, amount: Amount) -> Result<(), Refusal> {
-        if currency > 23 {
-            return Err(refused(Cause::Currency, currency));
-        }
-        let cash = self.cash[usize::from(currency)];
-        if amount.0 > cash {
-            return Err(refused(Cause::Cash, currency));
-        }
-        self.cash[usize::from(currency)] = cash - amount.0;
+        self.may_pay(currency, amount)?;
+        self.cash[usize::from(currency)] -= amount;
         Ok(())
     }
 }

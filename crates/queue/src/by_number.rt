@@ -5,17 +5,13 @@ use crate::order::QueueOrder;
 use intake::Pair;
 
 /// The order of the pair numbers.
-#[derive(Clone, Copy)]
+#[derive(Clone, Copy, Debug, PartialEq, Eq, Default)]
 pub struct ByNumber;
 
 impl QueueOrder for ByNumber {
     ghost before = { λ _. by_number };
 
-    ghost itself = { Prim.search rules };
-
-    ghost one_way = { Prim.search rules };
-
-    ghost onward = { Prim.search rules };
+    ghost lawful = { Prim.search rules };
 
     fn goes_before(&self, a: &Pair, b: &Pair) -> bool {
         a.number < b.number

@@ -5,20 +5,15 @@ use crate::order::QueueOrder;
 use intake::Pair;
 
 /// Heaviest weight first, equal ones by number.
-#[derive(Clone, Copy)]
+#[derive(Clone, Copy, Debug, PartialEq, Eq, Default)]
 pub struct HeaviestFirst;
 
 impl QueueOrder for HeaviestFirst {
     ghost before = { λ _. heaviest_first };
 
-    ghost itself = { Prim.search rules };
-
-    ghost one_way = { Prim.search rules };
-
-    ghost onward = { Prim.search rules };
+    ghost lawful = { Prim.search rules };
 
     fn goes_before(&self, a: &Pair, b: &Pair) -> bool {
-        let (first, second) = (a.weight.0, b.weight.0);
-        first > second || (first == second && a.number < b.number)
+        (b.weight, a.number) < (a.weight, b.number)
     }
 }

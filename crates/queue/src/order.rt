@@ -1,4 +1,4 @@
-ghost use Rattle.std.specs.Prelude.{◌≡◌, Bool, true, false, not, ◌≢◌};
+ghost use Rattle.std.specs.Prelude.{◌≡◌, Bool};
 ghost use Rattle.rules.specs.Pairs as rules;
 ghost use Rattle.rules.specs.Setting.{Orders};
 ghost use Rattle.intake.specs.Parties.{pair_of};
@@ -17,11 +17,7 @@ pub trait QueueOrder {
     fn goes_before(&self, a: &Pair, b: &Pair) -> bool
         ensures { result ≡ before self.now (pair_of a.now) (pair_of b.now) };
 
-    ghost itself: { (o : Self) (p : rules.Pair) → before o p p ≡ false };
-
-    ghost one_way: { (o : Self) (p q : rules.Pair) → (p.number ≢ q.number) → before o p q ≡ not (before o q p) };
-
-    ghost onward: { (o : Self) (p q r : rules.Pair) → before o p q ≡ true → before o q r ≡ true → before o p r ≡ true };
+    ghost lawful: { (o : Self) → Orders (before o) };
 }
 
 /// Every queue order keeps the laws that the rules ask of one.

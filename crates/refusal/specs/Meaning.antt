@@ -7,6 +7,7 @@ use Rattle.refusal.specs.declared.layer.Layer.{Layer}
 use Rattle.refusal.specs.declared.layer.Layer.TheVariants as layer
 use Rattle.refusal.specs.declared.refused.Refusal.{Refusal}
 
+-- the discriminants of the code, which `Cause::number` is proved to answer
 abbrev pub number_of : Cause → ℕ
 number_of cause.FileLength = 1
 number_of cause.Counts = 2

@@ -1,55 +1,55 @@
 ghost use Rattle.std.specs.Prelude.{◌≡◌};
 ghost use Rattle.refusal.specs.Meaning.{number_of};
 
-/// Why a call is refused. [`Cause::number`] gives the number under which it is printed.
-#[derive(Clone, Copy)]
+/// Why a call is refused, with the number under which it is printed.
+#[derive(Clone, Copy, Debug, PartialEq, Eq)]
 pub enum Cause {
     /// The file is shorter than 8 or longer than 40,000 bytes.
-    FileLength,
+    FileLength = 1,
     /// A count of the file is above its most.
-    Counts,
+    Counts = 2,
     /// The file's length is not what its counts give.
-    FileForm,
+    FileForm = 3,
     /// A step is of no known kind.
-    StepKind,
+    StepKind = 4,
     /// The sheet, the roster or the intake is full.
-    Full,
+    Full = 5,
     /// A code or a name has a wrong form or is taken.
-    Name,
+    Name = 6,
     /// A member's short limits are not one for each currency.
-    ShortLimits,
+    ShortLimits = 7,
     /// A rate, a haircut, a number of instalments or a limit is out of range.
-    Range,
+    Range = 8,
     /// A member is not on the roster, or the counterparty is the submitter.
-    Member,
+    Member = 9,
     /// A currency is not on the sheet.
-    Currency,
+    Currency = 10,
     /// An amount is not 1 to 10^9.
-    Amount,
+    Amount = 11,
     /// A reference is 0 or already used today by this submitter.
-    Reference,
+    Reference = 12,
     /// Both legs have the same currency.
-    SameCurrency,
+    SameCurrency = 13,
     /// A pay-in would bring account plus reservations above 10^9.
-    AccountCeiling,
+    AccountCeiling = 14,
     /// The member's pay-ins, or its pay-outs plus reservations, would pass 10^12 units.
-    DaySum,
+    DaySum = 15,
     /// The nostro's cash would pass 10^12.
-    CashCeiling,
+    CashCeiling = 16,
     /// The hour is below the present one or above 5.
-    Hour,
+    Hour = 17,
     /// A reserve exceeds the account.
-    Account,
+    Account = 18,
     /// After a reserve the adjusted value of the row would be below 0.
-    AdjustedValue,
+    AdjustedValue = 19,
     /// A reserve exceeds free cash, or a payment exceeds cash.
-    Cash,
+    Cash = 20,
     /// A reservation exceeds what is reserved here for its member and currency.
-    Reserved,
+    Reserved = 21,
     /// No waiting pair has that number.
-    NoPair,
+    NoPair = 22,
     /// The caller's buffer is shorter than the statement.
-    Buffer,
+    Buffer = 23,
 }
 
 impl Cause {
@@ -57,30 +57,6 @@ impl Cause {
     pub fn number(self) -> u8
         ensures { result ≡ number_of self }
     {
-        match self {
-            Cause::FileLength => 1,
-            Cause::Counts => 2,
-            Cause::FileForm => 3,
-            Cause::StepKind => 4,
-            Cause::Full => 5,
-            Cause::Name => 6,
-            Cause::ShortLimits => 7,
-            Cause::Range => 8,
-            Cause::Member => 9,
-            Cause::Currency => 10,
-            Cause::Amount => 11,
-            Cause::Reference => 12,
-            Cause::SameCurrency => 13,
-            Cause::AccountCeiling => 14,
-            Cause::DaySum => 15,
-            Cause::CashCeiling => 16,
-            Cause::Hour => 17,
-            Cause::Account => 18,
-            Cause::AdjustedValue => 19,
-            Cause::Cash => 20,
-            Cause::Reserved => 21,
-            Cause::NoPair => 22,
-            Cause::Buffer => 23,
-        }
+        self as u8
     }
 }

@@ -4,7 +4,9 @@
 mod cause;
 mod layer;
 mod refused;
+mod refusing;
 
 pub use cause::Cause;
 pub use layer::Layer;
-pub use refused::{NoMemory, Refusal};
+pub use refused::Refusal;
+pub use refusing::refuse_if;

@@ -1,12 +1,21 @@
 //! The rules of a settlement day, as definitions that the contracts of the other crates cite.
 //!
 //! The definitions stand in `specs/`, one subject a file, and the lemmas about them in `proofs/`.
-//! Each function here carries a theorem in its contract, so that the check asks for its proof.
+//! Each function here carries a theorem in its contract, so that the check asks for its proof. The constants are the
+//! house numbers for the code of all crates.
 #![tactic(auto)]
 
 ghost use Rattle.rules.specs.MatchingLaws.{MatchingPairsMirrors};
 ghost use Rattle.rules.specs.Settling.{SettleIsPassesUntilOneSettlesNothing, QueueIsInOrder, QueueIsTheOnlyOne};
 ghost use Rattle.rules.specs.Worked.{WorkedCases};
+
+mod bounds;
+
+pub use bounds::{
+    CODE_SIZE, LAST_HOUR, LONGEST_FILE, LONGEST_NAME, MOST_CURRENCIES, MOST_HAIRCUT,
+    MOST_INSTALMENTS, MOST_INSTRUCTIONS, MOST_MARKS, MOST_MEMBERS, MOST_RATE, MOST_STEPS, MOST_SUM,
+    MOST_UNITS,
+};
 
 /// Settle makes passes over the waiting pairs, in queue order, until one settles nothing.
 pub fn settle_makes_passes()

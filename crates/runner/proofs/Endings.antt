@@ -12,15 +12,15 @@ pub form_ends : (f : List ℕ) (e : Refusal) → form_refusal f ≡ Some e → d
 unfolding day_refusal
 form_ends f e h = rw h refl
 
-pub sheet_ends : (f old : List ℕ) (h : Halt) → form_refusal f ≡ None → SheetRead f (Err h) → Ends f old (Err h) old
+pub sheet_ends : (f : List ℕ) (h : Halt) → form_refusal f ≡ None → SheetRead f (Err h) → Ends f (Err h)
 unfolding day_refusal
-sheet_ends f old (Refused e) h0 h1 = (rw (h0, h1) refl, refl)
-sheet_ends f old NoMemory h0 h1 = tt
+sheet_ends f (Refused e) h0 h1 = rw (h0, h1) refl
+sheet_ends f (NoMemory e) h0 h1 = tt
 
-pub roster_ends : (f old : List ℕ) (h : Halt) → form_refusal f ≡ None → sheet_refusal f (currencies_in f) ≡ None → RosterRead f (Err h) → Ends f old (Err h) old
+pub roster_ends : (f : List ℕ) (h : Halt) → form_refusal f ≡ None → sheet_refusal f (currencies_in f) ≡ None → RosterRead f (Err h) → Ends f (Err h)
 unfolding day_refusal
-roster_ends f old (Refused e) h0 h1 h2 = (rw (h0, h1, h2) refl, refl)
-roster_ends f old NoMemory h0 h1 h2 = tt
+roster_ends f (Refused e) h0 h1 h2 = rw (h0, h1, h2) refl
+roster_ends f (NoMemory e) h0 h1 h2 = tt
 
 pub nothing_ends : (f : List ℕ) → form_refusal f ≡ None → sheet_refusal f (currencies_in f) ≡ None → roster_refusal f (members_in f) ≡ None → day_refusal f ≡ None
 unfolding day_refusal

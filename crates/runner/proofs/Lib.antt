@@ -4,3 +4,4 @@ mod Endings
 mod Lines
 mod Taken
 mod Opened
+mod Filled

@@ -1,5 +1,5 @@
 -- What a session of the runner means: over a single book, by pair number.
-use Rattle.std.specs.Prelude.{ℕ, Bool, Some, None, Ok, Err, Option, Result, slice_index}
+use Rattle.std.specs.Prelude.{ℕ, Bool, Some, None, Ok, Err, Option, Result}
 use Rattle.rules.specs.Pairs.{Pair}
 use Rattle.rules.specs.Orders.{by_number}
 use Rattle.rules.specs.Setting.{Setting}
@@ -8,6 +8,7 @@ use Rattle.rules.specs.Refusals as rules
 use Rattle.refusal.specs.declared.refused.Refusal.{Refusal}
 use Rattle.refusal.specs.Meaning.{refusal_of}
 use Rattle.nostro.specs.declared.single.SingleBook.{SingleBook}
+use Rattle.nostro.specs.Holdings.{booked}
 use Rattle.queue.specs.declared.by_number.ByNumber.{ByNumber}
 use Rattle.session.specs.declared.session.Session.{Session}
 use Rattle.session.specs.declared.closed.ClosedDay.{ClosedDay}
@@ -15,7 +16,7 @@ use Rattle.session.specs.Meaning.{setting_of, books_of}
 use Rattle.session.specs.Closing.{setting_after, books_after}
 
 abbrev pub cash : SingleBook → ℕ → ℕ
-cash s c = slice_index s.cash c
+cash = booked
 
 abbrev pub before : ByNumber → Pair → Pair → Bool
 before o = by_number

@@ -2,14 +2,14 @@
 ghost use Rattle.std.specs.Prelude.{◌≡◌};
 ghost use Rattle.runner.specs.declared.halt.Halt.TheVariants as halt;
 
-use refusal::{NoMemory, Refusal};
-use std::alloc::AllocError;
+use refusal::Refusal;
+use std::alloc::{AllocError, AllocFailed};
 
 /// A refusal that ends the day, or want of memory.
 #[derive(Drop)]
 pub(crate) enum Halt {
     Refused(Refusal),
-    NoMemory,
+    NoMemory(AllocError),
 }
 
 impl From<Refusal> for Halt {
@@ -21,17 +21,17 @@ impl From<Refusal> for Halt {
 }
 
 impl From<AllocError> for Halt {
-    ghost from_gives = { λ _ r. r ≡ halt.NoMemory };
+    ghost from_gives = { λ e r. r ≡ halt.NoMemory e };
 
-    fn from(_e: AllocError) -> Halt {
-        Halt::NoMemory
+    fn from(e: AllocError) -> Halt {
+        Halt::NoMemory(e)
     }
 }
 
-impl<T: Drop> From<NoMemory<T>> for Halt {
-    ghost from_gives = { λ _ r. r ≡ halt.NoMemory };
+impl<T: Drop> From<AllocFailed<T>> for Halt {
+    ghost from_gives = { λ _ r. (e : _) × (r ≡ halt.NoMemory e) };
 
-    fn from(_e: NoMemory<T>) -> Halt {
-        Halt::NoMemory
+    fn from(e: AllocFailed<T>) -> Halt {
+        Halt::NoMemory(e.into())
     }
 }

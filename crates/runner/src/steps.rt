@@ -1,14 +1,13 @@
 //! The steps of a day file: each is carried out, and a refused one prints its line.
-ghost use Rattle.std.specs.Prelude.{◌≡◌, ◌<◌, ◌++◌, None, OnOk};
-ghost use Rattle.rules.specs.FileForm.{steps_in, form_refusal};
-ghost use Rattle.rules.specs.FileRecords.{step_in};
+ghost use Rattle.std.specs.Prelude.{◌≡◌, ◌++◌, OnOk};
+ghost use Rattle.rules.specs.FileForm.{steps_in};
 ghost use Rattle.dayfile.specs.Meaning.{file_of, step_of};
 ghost use Rattle.rules.specs.FileDay.{setting_in, carried_out, books_after};
-ghost use Rattle.rules.specs.Printed.{line_at, refusal_in, step_lines};
+ghost use Rattle.rules.specs.Printed.{refusal_in, step_lines};
 ghost use Rattle.runner.specs.Sessions.{setting, books, refused};
 
-use crate::printing::print_at;
-use dayfile::{DayFile, StepRecord};
+use crate::printing::{Printer, print_refused};
+use dayfile::StepRecord;
 use nostro::{Nostro, SingleBook};
 use queue::ByNumber;
 use refusal::Refusal;
@@ -27,7 +26,7 @@ fn take_step(session: &mut Session<SingleBook, ByNumber>, step: StepRecord) -> R
             member,
             currency,
             amount,
-        } => session.pay_in(member, currency, Amount(u64::from(amount))),
+        } => session.pay_in(member, currency, Amount::from(amount)),
         StepRecord::Clock { hour } => session.clock(hour),
         StepRecord::Settle => {
             session.settle();
@@ -38,49 +37,31 @@ fn take_step(session: &mut Session<SingleBook, ByNumber>, step: StepRecord) -> R
             currency,
             amount,
         } => {
-            let reservation = session.reserve(member, currency, Amount(u64::from(amount)))?;
+            let reservation = session.reserve(member, currency, Amount::from(amount))?;
             session.pay(reservation)
         }
     }
 }
 
-// Takes the k-th step of the file.
-fn step(
-    text: &mut Vec<u8>,
-    day: DayFile<'_>,
-    session: &mut Session<SingleBook, ByNumber>,
-    k: usize,
-) -> Result<(), AllocError>
-    requires form { form_refusal (file_of day) ≡ None }
-    requires within { k < steps_in (file_of day) }
-    ensures setting { setting session.new ≡ setting session.old }
-    ensures books { books session.new ≡ (carried_out (setting session.old) (books session.old) (step_in (file_of day.entry) k)).books }
-    ensures text { OnOk result (text.new.items ≡ text.old.items ++ line_at k (refusal_in (carried_out (setting session.old) (books session.old) (step_in (file_of day.entry) k)).answer)) }
-{
-    let Some(x) = day.step(k) else {
-        return Ok(());
-    };
-    match take_step(session, x) {
-        Ok(()) => Ok(()),
-        Err(e) => print_at(text, e, k),
+impl Printer<'_> {
+    /// Takes all steps of the file, in order, and prints the lines of those refused.
+    pub(crate) fn take_steps(
+        &mut self,
+        session: &mut Session<SingleBook, ByNumber>,
+    ) -> Result<(), AllocError>
+        requires setting { setting session.old ≡ setting_in (file_of self.old.day) }
+        requires opened { books session.old ≡ books_after (file_of self.old.day) 0 }
+        ensures day { self.new.day ≡ self.old.day }
+        ensures setting { setting session.new ≡ setting_in (file_of self.old.day) }
+        ensures books { OnOk result (books session.new ≡ books_after (file_of self.old.day) (steps_in (file_of self.old.day))) }
+        ensures text { OnOk result (self.new.text.items ≡ self.old.text.items ++ step_lines (file_of self.old.day) (steps_in (file_of self.old.day))) }
+    {
+        let day = self.day;
+        // By number, which is the place that a refusal's line names.
+        for k in 0..day.steps() {
+            let answer = take_step(session, day.step(k).unwrap());
+            print_refused(&mut self.text, answer, k)?;
+        }
+        Ok(())
     }
-}
-
-/// Takes all steps of the file, in order, and adds the lines of those refused to the text.
-pub(crate) fn take_steps(
-    text: &mut Vec<u8>,
-    day: DayFile<'_>,
-    session: &mut Session<SingleBook, ByNumber>,
-) -> Result<(), AllocError>
-    requires form { form_refusal (file_of day) ≡ None }
-    requires setting { setting session.old ≡ setting_in (file_of day) }
-    requires opened { books session.old ≡ books_after (file_of day) 0 }
-    ensures setting { setting session.new ≡ setting session.old }
-    ensures books { OnOk result (books session.new ≡ books_after (file_of day.entry) (steps_in (file_of day.entry))) }
-    ensures text { OnOk result (text.new.items ≡ text.old.items ++ step_lines (file_of day.entry) (steps_in (file_of day.entry))) }
-{
-    for k in 0..day.steps() {
-        step(text, day, session, k)?;
-    }
-    Ok(())
 }

@@ -1,8 +1,4 @@
 mod Steps
-mod PayIns
-mod Clocks
-mod Reserving
-mod Paying
+mod Free
 mod SettleCall
-mod Opened
 mod Adding

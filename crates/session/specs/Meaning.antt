@@ -13,7 +13,7 @@ use Rattle.ledger.specs.declared.counts.Counts.{Counts}
 use Rattle.session.specs.declared.session.Session.{Session}
 use Rattle.session.specs.declared.reservation.Reservation.{Reservation}
 
--- over the cash of a nostro and the relation of an order
+-- over the cash of a nostro and the relation of an order: both are functions, which no model of the session could hold as its value
 module _ {N O : Type 0} (cash : N → ℕ → ℕ) (before : O → rules.Pair → rules.Pair → Bool) where
   -- what stays through the day
   abbrev pub setting_of : Session N O → Setting
@@ -22,6 +22,10 @@ module _ {N O : Type 0} (cash : N → ℕ → ℕ) (before : O → rules.Pair �
   -- what the calls change
   abbrev pub books_of : Session N O → Books
   books_of x = books_with (cash x.nostro) x.ledger
+
+  -- what is said of a session's setting and books
+  abbrev pub OfDay : Session N O → (Setting → Books → Type 0) → Type 0
+  OfDay x P = P (setting_of x) (books_of x)
 
 abbrev pub token : Reservation → books.Reservation
 token r = record { member = r.member; currency = r.currency; amount = r.amount.0 }

@@ -16,22 +16,14 @@ impl<N: Nostro, O: QueueOrder> Session<N, O> {
         ensures books { books_after N.Nostro.cash O.QueueOrder.before result ≡ closed (books_of N.Nostro.cash O.QueueOrder.before self) }
     {
         self.ledger.accounts.book.lapse();
-        let Session {
-            ledger,
-            nostro,
-            order,
-        } = self;
-        ClosedDay {
-            ledger,
-            nostro,
-            order,
-        }
+        ClosedDay { day: self }
     }
 }
 
 impl<N: Nostro, O: QueueOrder> ClosedDay<N, O> {
     /// Takes a reservation that was not paid: its amount is back in the account already, so nothing changes.
     pub fn lapse(&self, reservation: Reservation) {
+        // A reservation is never dropped, so each field is named.
         let Reservation {
             member: _,
             currency: _,

@@ -1,6 +1,6 @@
 ghost use Rattle.std.specs.Prelude.{◌≡◌, ℕ, ◌≤◌, vec_len, vec_capacity};
 ghost use Rattle.rules.specs.Books.{opened};
-ghost use Rattle.book.specs.Rows.{position, nothing};
+ghost use Rattle.book.specs.Rows.{Untouched};
 ghost use Rattle.session.specs.Meaning.{setting_of, books_of};
 ghost use Rattle.session.specs.Opening.{day_of};
 
@@ -12,16 +12,14 @@ use ledger::Ledger;
 use nostro::Nostro;
 use queue::{QueueOrder, queue_up};
 
-// A row of nothing for each member, in memory that is there already.
+// A row of nothing for each member, in memory that is there already: so the resize never fails.
 fn empty_book(mut rows: Vec<Row>, members: usize) -> Book
     requires empty { vec_len rows ≡ 0 }
     requires room { members ≤ vec_capacity rows }
     ensures len { vec_len result.rows ≡ members }
-    ensures nothing { (m c : ℕ) → position result m c ≡ nothing }
+    ensures nothing { Untouched result.rows.items }
 {
-    while rows.len() < members {
-        rows.push_reserved(Row::nothing());
-    }
+    rows.resize(members, Row::nothing()).unwrap();
     Book { rows }
 }
 
@@ -39,7 +37,7 @@ impl<N: Nostro, O: QueueOrder> Session<N, O> {
             rows,
         } = intake.finish();
         // There is room for all pairs, so this is never refused.
-        let _ = queue_up(&order, &pairs, &mut queue);
+        queue_up(&order, &pairs, &mut queue).unwrap();
         let book = empty_book(rows, members.len());
         let accounts = Accounts {
             sheet,

@@ -1,4 +1,1 @@
-mod Three
 mod Rounding
-mod Products
-mod Sums

@@ -1,14 +1,18 @@
--- Balances, and what one is worth.
-use Rattle.std.specs.Prelude.{ℕ, ◌+◌, ◌-◌, ◌*◌, Bool, cond, ℤ, pos, ◌*ℤ◌, neg_ℤ, ◌≤ℤ◌, int_lt}
-use Rattle.sheet.specs.declared.currency.Currency.{Currency}
+-- Balances.
+use Rattle.std.specs.Prelude.{ℕ, ℤ, pos, neg_ℤ, ◌≤ℤ◌}
 
 -- at most n either way
 abbrev pub Within : ℤ → ℕ → Type 0
 Within z n = (neg_ℤ (pos n) ≤ℤ z) × (z ≤ℤ pos n)
 
--- thousandths of a mark for one unit: the rate raised by the haircut where it is owed, and cut by it where it is held
-abbrev pub price : Currency → Bool → ℕ
-price x owed = x.rate * cond owed (1000 + x.haircut) (1000 - x.haircut)
+-- units: the most that a balance is, either way
+abbrev pub most_balance : ℕ
+most_balance = 2000000000
 
-abbrev pub worth : Currency → ℤ → ℤ
-worth x b = b *ℤ pos (price x (int_lt b (pos 0)))
+-- thousandths of a mark: the most that one unit is worth, held or owed
+abbrev pub most_price : ℕ
+most_price = 300000000
+
+-- thousandths of a mark: the most that one balance is worth, either way
+abbrev pub most_worth : ℕ
+most_worth = 600000000000000000

@@ -1,80 +1,70 @@
-ghost use Rattle.std.specs.Prelude.{◌≡◌, ℕ, ◌<◌, ◌≤◌, true, false, IfOk, Some, None, vec_len, MatchOption};
-ghost use Rattle.rules.specs.Sheet.{letter, is_code, code_taken, out_of_range, adding_causes, with_currency};
+ghost use Rattle.std.specs.Prelude.{◌≡◌, true, false, IfOk, Some, None, MatchOption};
+ghost use Rattle.rules.specs.Sheet.{is_code, code_taken, adding_causes, with_currency};
 ghost use Rattle.rules.specs.Refusals as rules;
 ghost use Rattle.refusal.specs.Meaning.{number_of, refusal_of};
 ghost use Rattle.refusal.specs.Answer.{Answers};
-ghost use Rattle.sheet.specs.Meaning.{sheet_of, currency_of};
-ghost use Rattle.sheet.specs.Ranges.{no_currency};
+ghost use Rattle.sheet.specs.Meaning.{sheet_of, given, Checked, no_currency};
 
-use crate::bounds::{MOST_CURRENCIES, MOST_HAIRCUT, MOST_INSTALMENTS, MOST_RATE};
 use crate::currency::Currency;
 use crate::sheet::Sheet;
-use crate::text::same;
-use refusal::{Cause, Layer, Refusal};
+use refusal::{Cause, Layer, Refusal, refuse_if};
+use rules::{CODE_SIZE, MOST_CURRENCIES, MOST_HAIRCUT, MOST_INSTALMENTS, MOST_RATE};
 use std::alloc::{AllocError, Global};
 
-fn is_letter(b: u8) -> bool
-    ensures { result ≡ letter b }
-{
-    b >= 65 && b <= 90
-}
-
-/// The three letters of a code, or `None` if it has not the form of one.
-fn letters(code: &[u8]) -> Option<[u8; 3]>
+// The three letters of a code, or `None` if it has not the form of one.
+fn letters(code: &[u8]) -> Option<[u8; CODE_SIZE]>
     ensures { MatchOption result (is_code code.now ≡ false) (λ a. (is_code code.now ≡ true) × (a ≡ code.now)) }
 {
-    let [a, b, c] = code else {
-        return None;
-    };
-    if is_letter(*a) && is_letter(*b) && is_letter(*c) {
-        return Some([*a, *b, *c]);
+    match code {
+        [a, b, c] if a.is_ascii_uppercase() && b.is_ascii_uppercase() && c.is_ascii_uppercase() => {
+            Some([*a, *b, *c])
+        }
+        _ => None,
     }
-    None
 }
 
 impl Currency {
-    fn is_out_of_range(&self) -> bool
-        ensures { result ≡ out_of_range (currency_of self.now) }
+    // The currency with this code, or `None` if a value is out of its range.
+    fn in_range(code: [u8; CODE_SIZE], rate: u32, haircut: u16, instalments: u8) -> Option<Currency>
+        ensures { Checked (given code rate haircut instalments) result }
     {
-        self.rate < 1
-            || self.rate > MOST_RATE
-            || self.haircut > MOST_HAIRCUT
-            || self.instalments < 1
-            || self.instalments > MOST_INSTALMENTS
+        let is_sound = (1..=MOST_RATE).contains(&rate)
+            && haircut <= MOST_HAIRCUT
+            && (1..=MOST_INSTALMENTS).contains(&instalments);
+        // No `then`: that the currency is sound is not proved inside a closure.
+        if !is_sound {
+            return None;
+        }
+        Some(Currency {
+            code,
+            rate,
+            haircut,
+            instalments,
+        })
     }
 }
 
 impl Sheet {
     /// An empty sheet, with memory for all that it may hold.
     pub fn begin(heap: Global) -> Result<Sheet, AllocError>
-        ensures { IfOk result (λ s. sheet_of s ≡ record { currencies = 0; currency = λ _. currency_of no_currency }) }
+        ensures { IfOk result (λ s. sheet_of s ≡ record { currencies = 0; currency = λ _. no_currency }) }
     {
         Ok(Sheet {
             currencies: Vec::with_capacity(heap, MOST_CURRENCIES)?,
         })
     }
 
-    fn is_taken(&self, code: &[u8]) -> bool
-        ensures { result ≡ code_taken (sheet_of self.now) code.now }
+    fn is_taken(&self, code: [u8; CODE_SIZE]) -> bool
+        ensures { result ≡ code_taken (sheet_of self.now) code }
     {
-        for k in 0..self.currencies.len() {
-            if same(&self.at(k).code, code) {
-                return true;
-            }
-        }
-        false
+        self.currencies.iter().any(|x| x.code == code)
     }
 
+    // The refusal of an addition: it names the number that the currency would have had.
     fn refusal(&self, cause: Cause) -> Refusal
-        ensures { refusal_of result ≡ record { number = number_of cause; layer = rules.sheet; member = None; currency = Some (vec_len self.now.currencies); place = 0 } }
+        ensures { refusal_of result ≡ record { number = number_of cause; layer = rules.sheet; member = None; currency = Some (sheet_of self.now).currencies; place = 0 } }
     {
-        Refusal {
-            cause,
-            layer: Layer::Sheet,
-            member: None,
-            currency: Some(self.len()),
-            place: 0,
-        }
+        Refusal::by(Layer::Sheet, cause).in_currency(self.len())
     }
 
     /// Adds a currency, which gets the next number.
@@ -87,29 +77,19 @@ impl Sheet {
         haircut: u16,
         instalments: u8,
     ) -> Result<(), Refusal>
-        ensures { Answers (adding_causes (sheet_of self.old) (record { code = code.entry.now; rate = rate; haircut = haircut; instalments = instalments }))
+        ensures { Answers (adding_causes (sheet_of self.old) (given code.entry.now rate haircut instalments))
             (sheet_of self.old)
-            (with_currency (sheet_of self.old) (record { code = code.entry.now; rate = rate; haircut = haircut; instalments = instalments }))
+            (with_currency (sheet_of self.old) (given code.entry.now rate haircut instalments))
             (sheet_of self.new) result }
     {
-        if self.currencies.len() >= MOST_CURRENCIES {
-            return Err(self.refusal(Cause::Full));
-        }
-        let Some(code) = letters(code) else {
-            return Err(self.refusal(Cause::Name));
-        };
-        if self.is_taken(&code) {
-            return Err(self.refusal(Cause::Name));
-        }
-        let currency = Currency {
-            code,
-            rate,
-            haircut,
-            instalments,
-        };
-        if currency.is_out_of_range() {
-            return Err(self.refusal(Cause::Range));
-        }
+        refuse_if(
+            self.currencies.len() >= MOST_CURRENCIES,
+            self.refusal(Cause::Full),
+        )?;
+        let code = letters(code).ok_or(self.refusal(Cause::Name))?;
+        refuse_if(self.is_taken(code), self.refusal(Cause::Name))?;
+        let currency = Currency::in_range(code, rate, haircut, instalments);
+        let currency = currency.ok_or(self.refusal(Cause::Range))?;
         self.currencies.push_reserved(currency);
         Ok(())
     }

@@ -3,14 +3,13 @@
 
 mod adding;
 mod balances;
-mod bounds;
 mod currency;
 mod reading;
 mod sheet;
 mod text;
 mod worth;
 
-pub use balances::Balances;
+pub use balances::{Balance, Balances};
 pub use currency::Currency;
 pub use sheet::Sheet;
 pub use text::same;

@@ -1,22 +1,22 @@
-ghost use Rattle.std.specs.Prelude.{◌≡◌, ℕ, ◌<◌, ◌≤◌, vec_len, MatchOption, slice_index_or};
+ghost use Rattle.std.specs.Prelude.{◌≡◌, ℕ, ◌<◌, ◌≤◌, MatchOption};
 ghost use Rattle.rules.specs.Bounds.{most_currencies, most_rate};
 ghost use Rattle.rules.specs.Schedule.{due};
-ghost use Rattle.sheet.specs.Ranges.{no_currency, Sound};
-ghost use Rattle.sheet.specs.Meaning.{sheet_of};
+ghost use Rattle.sheet.specs.Meaning.{sheet_of, currency_of};
 
 use crate::currency::Currency;
 use crate::sheet::Sheet;
 use units::Amount;
 
-/// The amount due at an hour, in so many instalments, of a required amount of which some is paid in.
-fn due(required: u64, hour: u8, instalments: u8, paid: u64) -> u64
-    requires { 1 ≤ instalments }
-    ensures { result ≡ due required hour instalments paid }
-{
-    // The product needs more than 64 bits; the quotient is at most the required amount.
-    let part = u128::from(required) * u128::from(hour.min(instalments));
-    let whole = u128::from(instalments);
-    (((part + (whole - 1)) / whole) as u64).saturating_sub(paid)
+impl Currency {
+    // The amount due at an hour, of a required amount of which some is paid in.
+    fn due(&self, required: Amount, hour: u8, paid: Amount) -> Amount
+        ensures { result.0 ≡ due required.0 hour self.now.instalments paid.0 }
+    {
+        // The product needs more than 64 bits; the quotient is at most the required amount.
+        let part = u128::from(required.0) * u128::from(hour.min(self.instalments));
+        let so_far = part.div_ceil(u128::from(self.instalments)) as u64;
+        Amount(so_far).saturating_sub(paid)
+    }
 }
 
 impl Sheet {
@@ -30,13 +30,9 @@ impl Sheet {
 
     /// The currency of a number, or `None` if it is not on the sheet.
     pub fn currency(&self, c: u8) -> Option<Currency>
-        ensures { MatchOption result (vec_len self.now.currencies ≤ c) (λ x. (c < vec_len self.now.currencies) × (x ≡ slice_index_or self.now.currencies.items c no_currency) × Sound x) }
+        ensures { MatchOption result ((sheet_of self.now).currencies ≤ c) (λ x. (c < (sheet_of self.now).currencies) × (currency_of x ≡ (sheet_of self.now).currency c)) }
     {
-        let k = c as usize;
-        if k >= self.currencies.len() {
-            return None;
-        }
-        Some(self.at(k))
+        self.currencies.get(usize::from(c)).copied()
     }
 
     /// The rate of a currency, or 0 if it is not on the sheet.
@@ -44,26 +40,13 @@ impl Sheet {
         ensures value { result ≡ ((sheet_of self.now).currency c).rate }
         ensures bound { result ≤ most_rate }
     {
-        match self.currency(c) {
-            Some(currency) => currency.rate,
-            None => 0,
-        }
+        self.currency(c).map_or(0, |x| x.rate)
     }
 
     /// The amount due in a currency at an hour, of a required amount of which some is paid in, or `None` if it is not on the sheet.
     pub fn amount_due(&self, c: u8, required: Amount, hour: u8, paid: Amount) -> Option<Amount>
         ensures { MatchOption result ((sheet_of self.now).currencies ≤ c) (λ a. (c < (sheet_of self.now).currencies) × (a.0 ≡ due required.0 hour ((sheet_of self.now).currency c).instalments paid.0)) }
     {
-        match self.currency(c) {
-            Some(currency) => Some(Amount(due(required.0, hour, currency.instalments, paid.0))),
-            None => None,
-        }
-    }
-
-    pub(crate) fn at(&self, k: usize) -> Currency
-        requires { k < vec_len self.now.currencies }
-        ensures { result ≡ slice_index_or self.now.currencies.items k no_currency }
-    {
-        self.currencies[k]
+        self.currency(c).map(|x| x.due(required, hour, paid))
     }
 }

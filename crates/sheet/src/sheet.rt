@@ -1,6 +1,5 @@
 ghost use Rattle.std.specs.Prelude.{ℕ, ◌≤◌, vec_len, vec_capacity};
 ghost use Rattle.rules.specs.Bounds.{most_currencies};
-ghost use Rattle.sheet.specs.Ranges.{AllSound};
 
 use crate::currency::Currency;
 
@@ -8,7 +7,6 @@ use crate::currency::Currency;
 #[derive(Drop)]
 pub struct Sheet {
     pub(crate) currencies: Vec<Currency>,
-    ghost sound: { AllSound currencies.items },
     ghost few: { vec_len currencies ≤ most_currencies },
     ghost room: { most_currencies ≤ vec_capacity currencies },
 }

@@ -59,6 +59,7 @@ fn unrolled(heap: Global, day: &RepeatedDay) -> Result<Vec<u8>, AllocError> {
     Ok(file)
 }
 
+// Beside `hold_days`: a trait of the two kinds of day would be longer than the line in which the loops differ.
 fn hold_repeated(rt: &impl Abort, heap: Global, days: &[RepeatedDay]) -> Result<(), Fail> {
     for day in days {
         let file = unrolled(heap, day)?;
@@ -74,7 +75,7 @@ fn full_intake(heap: Global) -> Result<Vec<u8>, AllocError> {
         &mut file,
         &[b"\x02\x00\x02\x00\x00\x04\x00\x00", USD, EUR, ALFA, BETA],
     )?;
-    for reference in 1u32..1025 {
+    for reference in 1..=1_024u32 {
         file.extend_from_slice(b"\x00\x01\x01\x00\x64\x00\x00\x00\x6e\x00\x00\x00")?;
         file.extend_from_slice(&reference.to_le_bytes())?;
     }

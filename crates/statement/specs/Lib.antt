@@ -1,3 +1,3 @@
 pub mod Room
-pub mod Held
+pub mod Pieces
 pub mod Meaning

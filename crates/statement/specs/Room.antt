@@ -1,9 +1,10 @@
 -- How long the parts of a text can be, in bytes.
 use Rattle.std.specs.Prelude.{ℕ, ◌+◌, ◌*◌}
+use Rattle.rules.specs.Bounds.{most_currencies}
 
 -- how many currencies a statement has at most, and how long a name is
 abbrev pub most_entries : ℕ
-most_entries = 24
+most_entries = most_currencies
 
 abbrev pub longest_name : ℕ
 longest_name = 16

@@ -2,11 +2,12 @@
 #![tactic(auto)]
 
 mod entry;
+mod pieces;
 mod refusing;
 mod statement;
-mod text;
 mod writing;
 
 pub use entry::Entry;
-pub use refusing::write_refusal;
-pub use statement::Statement;
+pub use pieces::LONGEST_STATEMENT;
+pub use refusing::{LONGEST_LINE, write_refusal};
+pub use statement::{NoLineLeft, Statement};

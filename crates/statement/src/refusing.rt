@@ -1,12 +1,16 @@
 //! How a refusal is written.
-ghost use Rattle.std.specs.Prelude.{◌≡◌, ◌+◌, ◌≤◌, true, ◌++◌, length, is_some};
-ghost use Rattle.rules.specs.Wording.{layer_name, refusal_line};
-ghost use Rattle.refusal.specs.Meaning.{layer_of, refusal_of};
-ghost use Rattle.statement.specs.Held.{text_of, Copied};
-ghost use Rattle.statement.specs.Room.{room, refusal_room};
+ghost use Rattle.std.specs.Prelude.{◌≡◌, ◌≤◌, true, length, is_some};
+ghost use Rattle.std.specs.List.{flat_map};
+ghost use Rattle.rules.specs.Wording.{number_or_dash, refusal_line};
+ghost use Rattle.refusal.specs.Meaning.{refusal_of};
+ghost use Rattle.statement.specs.Pieces.{piece_text, Copied};
+ghost use Rattle.statement.specs.Room.{number_room, refusal_room};
 
-use crate::text::Text;
-use refusal::{Layer, Refusal};
+use crate::pieces::{Piece, Text, copy_to, put_line};
+use refusal::Refusal;
+
+/// Bytes that suffice for the line of any refusal.
+pub const LONGEST_LINE: usize = 128;
 
 /// How long the line of a refusal is: it then stands at the front of `buf`, the rest as it was.
 /// Or nothing, and every byte of `buf` as it was, where it is longer than `buf`: 128 bytes always suffice.
@@ -15,38 +19,32 @@ pub fn write_refusal(e: &Refusal, buf: &mut [u8]) -> Option<usize>
     ensures fits { refusal_room ≤ length buf.old → is_some result ≡ true }
 {
     let mut text = Text::new();
-    put_refusal(&mut text, e);
-    text.copy_to(buf)
+    put_line(&mut text, &refusal_pieces(e));
+    copy_to(&text, buf)
 }
 
-fn put_refusal(text: &mut Text, e: &Refusal)
-    requires { text.old.len + refusal_room ≤ room }
-    ensures text { text_of text.new ≡ text_of text.old ++ refusal_line (refusal_of e.now) }
-    ensures len { text.new.len ≤ text.old.len + refusal_room }
+fn refusal_pieces(e: &Refusal) -> [Piece<'static>; 11]
+    ensures text { flat_map piece_text result ≡ refusal_line (refusal_of e.now) }
+    ensures short { length (flat_map piece_text result) ≤ refusal_room }
 {
-    text.put(b"refusal ");
-    text.number(u64::from(e.cause.number()));
-    text.put(b" ");
-    text.put(layer_name(e.layer));
-    text.put(b" member ");
-    text.number_or_dash(e.member);
-    text.put(b" currency ");
-    text.number_or_dash(e.currency);
-    text.put(b" place ");
-    text.number(e.place as u64);
-    text.put(b"\n");
+    [
+        Piece::Bytes(b"refusal "),
+        Piece::number(u64::from(e.cause.number())),
+        Piece::Bytes(b" "),
+        Piece::Bytes(e.layer.name()),
+        Piece::Bytes(b" member "),
+        number_or_dash(e.member),
+        Piece::Bytes(b" currency "),
+        number_or_dash(e.currency),
+        Piece::Bytes(b" place "),
+        Piece::number(e.place as u64),
+        Piece::Bytes(b"\n"),
+    ]
 }
 
-fn layer_name(layer: Layer) -> &'static [u8]
-    ensures value { result.now ≡ layer_name (layer_of layer) }
-    ensures len { length result.now ≤ 7 }
+fn number_or_dash(n: Option<u8>) -> Piece<'static>
+    ensures text { piece_text result ≡ number_or_dash n }
+    ensures short { length (piece_text result) ≤ number_room }
 {
-    match layer {
-        Layer::File => b"file",
-        Layer::Sheet => b"sheet",
-        Layer::Roster => b"roster",
-        Layer::Intake => b"intake",
-        Layer::Session => b"session",
-        Layer::Nostro => b"nostro",
-    }
+    n.map_or(Piece::Bytes(b"-"), |k| Piece::number(u64::from(k)))
 }

@@ -1,13 +1,15 @@
-ghost use Rattle.std.specs.Prelude.{◌+◌, ◌*◌, ◌≤◌};
-ghost use Rattle.statement.specs.Room.{most_entries, member_room, entry_room};
+use crate::entry::Entry;
+use arrayvec::ArrayVec;
+use rules::{LONGEST_NAME, MOST_CURRENCIES};
 
-use crate::text::Text;
-
-/// A statement in the making: the member's line and the lines of its first currencies.
+/// A statement in the making: the name of its member, and its first currencies.
 #[derive(Drop)]
 pub struct Statement {
-    pub(crate) text: Text,
-    pub(crate) entries: usize,
-    ghost few: { entries ≤ most_entries },
-    ghost short: { text.len ≤ member_room + entry_room * entries },
+    // A copy, so that the statement, which is public, borrows nothing.
+    pub(crate) name: ArrayVec<u8, LONGEST_NAME>,
+    pub(crate) entries: ArrayVec<Entry, MOST_CURRENCIES>,
 }
+
+/// Why a currency is not added: the statement has as many as a day has at most.
+#[derive(Clone, Copy, Debug, PartialEq, Eq)]
+pub struct NoLineLeft;

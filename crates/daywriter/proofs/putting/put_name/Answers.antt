@@ -1,9 +1,9 @@
-use Rattle.std.proofs.Common.{vec_items, arith, rules}
-use Rattle.daywriter.proofs.PutMore.{space_put, name_put}
+use Rattle.std.proofs.Common.{length, rules}
+use Rattle.std.proofs.lemmas.List.{append_assoc}
+use Rattle.daywriter.proofs.PutMore.{spaces_left}
 use Rattle.daywriter.proofs.putting.put_name.Goals as goal
 
-pub loop-preserved : goal.loop-preserved
-loop-preserved c = (search (rules, space_put), omega arith)
-
 pub returns : goal.returns
-returns c = name_put (vec_items c.args.out.now) c.args.name.now (vec_items c.extend_from_slice.new.self) (vec_items c.loop.out) c.loop.counter (omega arith) c.in_ok-extend_from_slice.ensures.items c.loop.invariant.0
+returns c =
+    let spaces = spaces_left (length c.args.name.now) c.min.result c.min.ensures in
+    search (rules, spaces, append_assoc)

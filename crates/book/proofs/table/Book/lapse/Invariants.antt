@@ -1,9 +1,8 @@
-use Rattle.std.proofs.Common.{◌≡◌, ℕ, ◌<◌, ◌≤◌, vec_len}
-use Rattle.book.specs.Rows.{row_at, position, Lapsed}
+use Rattle.std.proofs.Common.{◌≡◌, ℕ, ◌<◌, ◌≤◌, [], get_or}
+use Rattle.book.specs.Rows.{in_row, Lapsed}
 use Rattle.book.proofs.table.Book.lapse.Given as goal
 
-abbrev pub invariant-loop-m : goal.invariant-loop-m
-invariant-loop-m l =
-    (vec_len l.self.rows ≡ vec_len l.initial.self.rows)
-    × ((q c : ℕ) → q < l.m → Lapsed (position l.initial.self q c) (position l.self q c))
-    × ((q : ℕ) → l.m ≤ q → row_at l.self q ≡ row_at l.initial.self q)
+abbrev pub invariant-loop-row : goal.invariant-loop-row
+invariant-loop-row l =
+    ((m : ℕ) → m < l.row-index → (c : ℕ) → Lapsed (in_row (get_or l.initial.row-items m (record { positions = [] })) c) (in_row (get_or l.row-items m (record { positions = [] })) c))
+    × ((m : ℕ) → l.row-index ≤ m → get_or l.row-items m (record { positions = [] }) ≡ get_or l.initial.row-items m (record { positions = [] }))

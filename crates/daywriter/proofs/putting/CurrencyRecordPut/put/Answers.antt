@@ -5,4 +5,4 @@ use Rattle.daywriter.proofs.putting.CurrencyRecordPut.put.Goals as goal
 
 pub returns : goal.returns
 unfolding currency_bytes
-returns c = (search (rules, append_assoc), search rules)
+returns c = search (rules, append_assoc)

@@ -5,4 +5,4 @@ use Rattle.daywriter.proofs.putting.InstructionRecordPut.put.Goals as goal
 
 pub returns : goal.returns
 unfolding instruction_bytes
-returns c = (search (rules, append_assoc), search rules)
+returns c = search (rules, append_assoc)

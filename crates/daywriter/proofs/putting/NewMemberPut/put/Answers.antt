@@ -5,4 +5,4 @@ use Rattle.daywriter.proofs.putting.NewMemberPut.put.Goals as goal
 
 pub returns : goal.returns
 unfolding member_bytes
-returns c = (search (rules, append_assoc), search rules)
+returns c = search (rules, append_assoc)

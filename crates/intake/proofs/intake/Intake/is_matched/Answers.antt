@@ -1,11 +1,9 @@
-use Rattle.std.proofs.Common.{rules}
+use Rattle.std.proofs.Common.{rules, tests}
 use Rattle.rules.specs.Matching.{of_pair}
-use Rattle.rules.proofs.Scans.{scan_more, found_at}
-use Rattle.intake.specs.Books.{book_of, instruction_of}
+use Rattle.intake.specs.Parties.{no_pair, pair_of}
+use Rattle.intake.specs.Books.{instruction_of}
+use Rattle.rules.proofs.Scans.{any_below}
 use Rattle.intake.proofs.intake.Intake.is_matched.Goals as goal
 
-pub returns-then-is_of : goal.returns-then-is_of
-returns-then-is_of c = found_at (λ k. of_pair ((book_of c.args.self.now).pair k) (instruction_of c.args.i.now)) _ c.loop-k.k (search rules) (search rules)
-
-pub loop-k-preserved : goal.loop-k-preserved
-loop-k-preserved c = scan_more (λ k. of_pair ((book_of c.args.self.now).pair k) (instruction_of c.args.i.now)) _ c.loop-k.invariant (search rules)
+pub returns : goal.returns
+returns c = any_below (λ k. of_pair (pair_of k) (instruction_of c.args.i.now)) no_pair _ _ _ c.args.self.now.pairs.ok.0 c.any.ensures.ran (λ x b q k. search (rules, tests)) cc

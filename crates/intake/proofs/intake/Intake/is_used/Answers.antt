@@ -1,11 +1,8 @@
-use Rattle.std.proofs.Common.{rules}
+use Rattle.std.proofs.Common.{rules, tests}
 use Rattle.rules.specs.Matching.{same_name}
-use Rattle.rules.proofs.Scans.{scan_more, found_at}
-use Rattle.intake.specs.Books.{book_of, instruction_of}
+use Rattle.intake.specs.Books.{no_instruction, instruction_of}
+use Rattle.rules.proofs.Scans.{any_below}
 use Rattle.intake.proofs.intake.Intake.is_used.Goals as goal
 
-pub returns-then-is_named_as : goal.returns-then-is_named_as
-returns-then-is_named_as c = found_at (λ k. same_name ((book_of c.args.self.now).instruction k) (instruction_of c.args.i.now)) _ c.loop-k.k (search rules) (search rules)
-
-pub loop-k-preserved : goal.loop-k-preserved
-loop-k-preserved c = scan_more (λ k. same_name ((book_of c.args.self.now).instruction k) (instruction_of c.args.i.now)) _ c.loop-k.invariant (search rules)
+pub returns : goal.returns
+returns c = any_below (λ k. same_name (instruction_of k) (instruction_of c.args.i.now)) no_instruction _ _ _ c.args.self.now.kept.ok.0 c.any.ensures.ran (λ x b q k. search (rules, tests)) cc

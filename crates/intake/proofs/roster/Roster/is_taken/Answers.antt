@@ -1,11 +1,8 @@
-use Rattle.std.proofs.Common.{rules}
+use Rattle.std.proofs.Common.{rules, tests}
 use Rattle.std.specs.Str.{bytes_eq}
-use Rattle.rules.proofs.Scans.{scan_more, found_at}
-use Rattle.intake.specs.Rosters.{roster_of}
+use Rattle.intake.specs.Members.{no_member, name_of}
+use Rattle.rules.proofs.Scans.{any_below}
 use Rattle.intake.proofs.roster.Roster.is_taken.Goals as goal
 
-pub returns-then-is_called : goal.returns-then-is_called
-returns-then-is_called c = found_at (λ m. bytes_eq ((roster_of c.args.self.now).member m).name c.args.name.now) _ c.loop-k.k (search rules) (search rules)
-
-pub loop-k-preserved : goal.loop-k-preserved
-loop-k-preserved c = scan_more (λ m. bytes_eq ((roster_of c.args.self.now).member m).name c.args.name.now) _ c.loop-k.invariant (search rules)
+pub returns : goal.returns
+returns c = any_below (λ m. bytes_eq (name_of m.name) c.args.name.now) no_member _ _ _ c.args.self.now.members.ok.0 c.any.ensures.ran (λ x b q k. search (rules, tests)) cc

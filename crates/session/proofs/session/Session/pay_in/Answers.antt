@@ -1,31 +1,36 @@
-use Rattle.std.proofs.Common.{◌≤◌, refl, arith}
+use Rattle.std.proofs.Common.{◌≤◌, ◌+◌, ltb, Ok, Err, rules, refl, arith}
 use mathlib.Core.Path.{fun_ext}
-use Rattle.std.proofs.lemmas.Result.{err_from_is_err_and}
+use Rattle.std.proofs.lemmas.Result.{err_from_is_err_and, MatchResult-weaker}
+use Rattle.rules.specs.Bounds.{most_sum}
+use Rattle.rules.specs.Calls.{accepted}
 use Rattle.rules.proofs.Responses.{same_books}
-use Rattle.nostro.proofs.Cash.{cash-received, within_ceiling, over_ceiling}
+use Rattle.nostro.proofs.Cash.{cash-received}
 use Rattle.book.proofs.Tables.{put_credited, put_raised, put_kept}
-use Rattle.session.proofs.PayIns.{pay_in_turned_away, pay_in_full, pay_in-done}
+use Rattle.session.proofs.Steps.{refused_first, refused_last, let_through, passed_on}
 use Rattle.session.proofs.session.Session.pay_in.Goals as goal
 
 pub returns-in_err-position : goal.returns-in_err-position
-returns-in_err-position g c = let p = err_from_is_err_and c.from_residual.result c.from_residual.ensures.1 in rw (p.1, p.2) (refl, pay_in_turned_away _ _ _ _ _ _ _ c.in_err-position.ensures refl)
+returns-in_err-position g c = let p = err_from_is_err_and c.from_residual.result c.from_residual.ensures.1 in rw (p.1, p.2) (refl, refused_first _ _ _ _ _ c.in_err-position.ensures refl)
 
-pub returns-in-Ok : goal.returns-in-Ok
-returns-in-Ok g c =
-    let h = c.in_ok-position.ensures in
-    let x = c.args.self.now.ledger.accounts in
-    let p = c.put.ensures.put (omega (arith, h.0.0, x.even), omega (arith, h.0.1, x.sheet.few)) in
-    let e = c.in-Ok.ensures in (
-      refl,
-      pay_in-done _ _ _ _ _ _ h.2 (within_ceiling (g.N.Nostro.cash c.args.self.now.nostro) c.args.currency c.args.amount.0 e.0)
-          (put_credited _ _ _ _ _ p _ (λ x. x.account.0) h.3.account_is) (put_kept (λ x. x.reserved.0) _ _ _ _ _ p h.3.reserved_is)
-          (put_raised _ _ _ _ _ p _ (λ x. x.paid_in.0) h.3.in_is) (put_kept (λ x. x.paid_out.0) _ _ _ _ _ p h.3.out_is)
-          refl refl (cash-received _ _ _ _ e.1),
-    )
-
-pub returns-in-Err : goal.returns-in-Err
-returns-in-Err g c =
+pub returns-in_err-map_err : goal.returns-in_err-map_err
+returns-in_err-map_err g c =
     let h = c.in_ok-position.ensures in
     let l : c.args.currency ≤ 23 = omega (arith, h.0.1, c.args.self.now.ledger.accounts.sheet.few) in
-    let e = c.in-Err.ensures in
-    rw c.refused_by_nostro.ensures (refl, pay_in_full _ _ _ _ _ _ h.2 (over_ceiling (g.N.Nostro.cash c.args.self.now.nostro) c.args.currency c.args.amount.0 _ l e.0) (same_books _ _ refl refl refl refl refl refl (fun_ext e.1)))
+    let p = err_from_is_err_and c.from_residual-in_err-map_err.result c.from_residual-in_err-map_err.ensures.1 in
+    let o = passed_on c.args.member c.args.currency 16 (ltb most_sum (g.N.Nostro.cash c.args.self.now.nostro c.args.currency + c.args.amount.0)) l _ _ c.receive.result (Err c.in_err-map_err.field-0.0) c.receive.ensures (MatchResult-weaker c.receive.result c.in_err-map_err.ensures.cases (λ x k. k) (λ e k. search rules)) in
+    rw (p.1, p.2) (refl, refused_last _ _ _ _ _ h.2 o.0 (same_books _ _ refl refl refl refl refl refl (fun_ext o.1)))
+
+pub returns : goal.returns
+unfolding accepted
+returns g c =
+    let h = c.in_ok-position.ensures in
+    let x = c.args.self.now.ledger.accounts in
+    let l : c.args.currency ≤ 23 = omega (arith, h.0.1, x.sheet.few) in
+    let p = c.put.ensures.put (omega (arith, h.0.0, x.even), omega (arith, h.0.1, x.sheet.few)) in
+    let o = passed_on c.args.member c.args.currency 16 (ltb most_sum (g.N.Nostro.cash c.args.self.now.nostro c.args.currency + c.args.amount.0)) l _ _ c.receive.result (Ok c.in_ok-map_err.field-0) c.receive.ensures (MatchResult-weaker c.receive.result c.in_ok-map_err.ensures.cases (λ x k. k) (λ e k. absurd k)) in (
+      refl,
+      let_through _ _ _ _ h.2 o.0 (same_books _ _
+          (put_credited _ _ _ _ _ p _ (λ x. x.account.0) h.3.account_is) (put_kept (λ x. x.reserved.0) _ _ _ _ _ p h.3.reserved_is)
+          (put_raised _ _ _ _ _ p _ (λ x. x.paid_in.0) h.3.in_is) (put_kept (λ x. x.paid_out.0) _ _ _ _ _ p h.3.out_is)
+          refl refl (cash-received _ _ _ _ o.1)),
+    )

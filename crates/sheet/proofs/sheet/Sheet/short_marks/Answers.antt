@@ -1,14 +1,17 @@
-use Rattle.std.proofs.Common.{◌*◌, arith}
-use Rattle.rules.specs.Worth.{below_0}
+use Rattle.std.proofs.Common.{rules, ◌≡◌, ◌*◌, pos, ◌∙◌}
+use Rattle.std.proofs.lemmas.Int.{ints}
+use Rattle.rules.specs.Worth.{below_0, short_marks}
+use Rattle.rules.proofs.Sum.{total_ℤ_pos}
 use Rattle.sheet.specs.Meaning.{sheet_of}
-use Rattle.rules.proofs.Sum.{total_more}
+use Rattle.sheet.proofs.sheet.Sheet.short_marks.Given.{Over}
 use Rattle.sheet.proofs.sheet.Sheet.short_marks.Goals as goal
 
-pub loop-k-preserved : goal.loop-k-preserved
-loop-k-preserved g c =
-    let s = c.args.self.now in
-    let m = total_more (λ k. below_0 (g.B.Balances.balance c.args.row.now k) * ((sheet_of s).currency k).rate) c.loop-k.k in
-    let v = c.short_at.ensures.value in
-    let a = c.add-sum.ensures in
-    let i = c.loop-k.invariant.0 in
-    (cc, omega arith)
+-- the sum is that of the short marks, so it is not below 0
+sum_is : (g : Over) (c : goal.After-sum g) → c.sum.result ≡ pos (short_marks (sheet_of c.args.self.now) (g.B.Balances.balance c.args.row.now))
+sum_is g c = c.sum.ensures.value (λ x b. pos (below_0 b * x.rate)) (λ x b r h. search rules) ∙ total_ℤ_pos (sheet_of c.args.self.now).currencies _
+
+pub overflow_cast-result : goal.overflow_cast-result
+overflow_cast-result g c = let e = sum_is g c in let b = c.sum.ensures.bound in search (rules, ints)
+
+pub returns : goal.returns
+returns g c = let e = sum_is g c in let b = c.sum.ensures.bound in search (rules, ints)

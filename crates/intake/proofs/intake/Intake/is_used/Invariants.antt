@@ -1,8 +1,0 @@
-use Rattle.std.proofs.Common.{◌≡◌, false}
-use Rattle.rules.specs.Below.{some_below}
-use Rattle.rules.specs.Matching.{same_name}
-use Rattle.intake.specs.Books.{book_of, instruction_of}
-use Rattle.intake.proofs.intake.Intake.is_used.Given as goal
-
-abbrev pub invariant-loop-k : goal.invariant-loop-k
-invariant-loop-k l = some_below l.k (λ k. same_name ((book_of l.self).instruction k) (instruction_of l.i)) ≡ false

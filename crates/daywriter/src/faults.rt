@@ -20,7 +20,7 @@ impl DayRecords<'_> {
     }
 
     // Refused for the first thing that is wrong with the records.
-    pub(crate) fn check(self) -> Result<(), Fault>
+    fn check(self) -> Result<(), Fault>
         ensures { MatchResult result (λ _. writing_fault (day_of self.entry) ≡ None) (λ fault. writing_fault (day_of self.entry) ≡ Some (fault_of fault)) }
     {
         refuse_if(self.has_too_many(), Fault::TooMany)?;

@@ -14,7 +14,9 @@ impl DayRecords<'_> {
     pub fn write(self, heap: Global) -> Result<Vec<u8>, Unwritten>
         ensures { Wrote (day_of self.entry) result }
     {
-        self.check()?;
+        if let Some(fault) = self.fault() {
+            return Err(fault.into());
+        }
         let mut out = Vec::new(heap);
         self.put_records(&mut out)?;
         Ok(out)

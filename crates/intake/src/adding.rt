@@ -12,7 +12,7 @@ use crate::name::Name;
 use crate::roster::Roster;
 use refusal::{Cause, Layer, Refusal, refuse_if};
 use rules::MOST_MEMBERS;
-use sheet::Sheet;
+use sheet::{Sheet, same};
 use std::alloc::{AllocFailed, Global};
 use units::Marks;
 
@@ -20,7 +20,7 @@ impl Member {
     fn is_called(&self, name: &[u8]) -> bool
         ensures { result ≡ bytes_eq (name_of self.now.name) name.now }
     {
-        self.name.as_bytes() == name
+        same(self.name.as_bytes(), name)
     }
 }
 

@@ -7,6 +7,7 @@ ghost use Rattle.sheet.specs.Meaning.{sheet_of, given, Checked, no_currency};
 
 use crate::currency::Currency;
 use crate::sheet::Sheet;
+use crate::text::same;
 use refusal::{Cause, Layer, Refusal, refuse_if};
 use rules::{CODE_SIZE, MOST_CURRENCIES, MOST_HAIRCUT, MOST_INSTALMENTS, MOST_RATE};
 use std::alloc::{AllocError, Global};
@@ -57,7 +58,7 @@ impl Sheet {
     fn is_taken(&self, code: [u8; CODE_SIZE]) -> bool
         ensures { result ≡ code_taken (sheet_of self.now) code }
     {
-        self.currencies.iter().any(|x| x.code == code)
+        self.currencies.iter().any(|x| same(&x.code, &code))
     }
 
     // The refusal of an addition: it names the number that the currency would have had.

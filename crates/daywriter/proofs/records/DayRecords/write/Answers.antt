@@ -6,12 +6,12 @@ use Rattle.daywriter.proofs.WholeFile.{written_reads_back}
 use Rattle.daywriter.proofs.records.DayRecords.write.Goals as goal
 
 pub put_records-requires : goal.put_records-requires
-put_records-requires c = few_enough (day_of c.args.self) c.in_ok-check.ensures
+put_records-requires c = few_enough (day_of c.args.self) c.in_default.ensures
 
 pub returns : goal.returns
 returns c =
     let day = day_of c.args.self in
     let put = c.in_ok-put_records.ensures in
     let bytes : vec_items c.put_records.new.out ≡ day_bytes day = simp c.new-out.ensures.items at put.0 in
-    let none = c.in_ok-check.ensures in
+    let none = c.in_default.ensures in
     (none, bytes, rw bytes (written_reads_back day none put.1))

@@ -55,6 +55,24 @@ printed "a pipe that delivers the file in four parts" "$work/worked"
 dd if="$day" bs=1 2>/dev/null | settle
 printed "a pipe that delivers the file byte by byte" "$work/worked"
 
+# A hundred steps that each set the hour to 9, in one packet: a read with less room than the packet would lose the rest.
+out=target/streams
+mkdir -p "$out"
+if [ ! -x "$out/packets" ] || [ -n "$(find tests/packets.rs -newer "$out/packets")" ]; then
+    rustc -O --edition 2024 -o "$out/packets" tests/packets.rs
+fi
+printf '\0\0\0\0\0\0\144\0' >"$work/clocks.day"
+place=0
+while [ "$place" -lt 100 ]; do
+    printf '\2\0\0\11\0\0\0\0' >>"$work/clocks.day"
+    printf 'refusal 17 session member - currency - place %d\n' "$place" >>"$work/clocks"
+    place=$((place + 1))
+done
+status=0
+timeout 20 "$out/packets" "$engine" "$work/clocks.day" >"$work/text" 2>"$work/said" || status=$?
+echo "$status" >"$work/status"
+printed "one packet of 808 bytes" "$work/clocks"
+
 settle </dev/null
 printed "an empty input" "$work/length"
 : | settle

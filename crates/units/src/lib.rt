@@ -86,8 +86,8 @@ impl AddAssign<Amount> for Units {
 
     ghost add_assign_gives = { λ a b r. r.0 ≡ a.0 +ℤ pos b.0 };
 
-    fn add_assign(&mut self, rhs: Amount) {
-        *self = *self + rhs;
+    fn add_assign(&mut self, amount: Amount) {
+        *self = *self + amount;
     }
 }
 
@@ -96,8 +96,8 @@ impl SubAssign<Amount> for Units {
 
     ghost sub_assign_gives = { λ a b r. r.0 ≡ a.0 -ℤ pos b.0 };
 
-    fn sub_assign(&mut self, rhs: Amount) {
-        *self = *self - rhs;
+    fn sub_assign(&mut self, amount: Amount) {
+        *self = *self - amount;
     }
 }
 

@@ -38,11 +38,12 @@ value : (x : Accounts) (c r : ℕ) → r ≡ sum_by (λ row. (in_row row c).rese
 value x c r e = e ∙ by_place (λ row. (in_row row c).reserved.0) (record { positions = [] }) (vec_items x.book.rows) ∙ ap (λ n. total n (λ m. reserve_of x m c)) (rows_are x)
 
 pub returns-clause-value : goal.returns-clause-value
-returns-clause-value c = value c.args.self.now c.args.c c.sum-reserved.result (search rules)
+returns-clause-value c = value c.args.self.now c.args.c _ (search rules)
 
 pub returns-clause-bound : goal.returns-clause-bound
 returns-clause-bound c =
     let x = c.args.self.now in
     let e = value x c.args.c c.sum-reserved.result (search rules) in
     let b = bounded (vec_len x.members) (λ m. reserve_of x m c.args.c) (λ m. let s = (position x.book m c.args.c).sound.3 in omega arith) in
-    omega (arith, x.few)
+    let s : c.sum-reserved.result ≤ most_members * most_sum = omega (arith, x.few) in
+    search (rules, s)

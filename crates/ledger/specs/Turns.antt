@@ -1,4 +1,4 @@
--- One turn of a pass, and a pass, over the ledger.
+-- A pass, and settle, over the ledger.
 use Rattle.std.specs.Prelude.{◌≡◌, ℕ, List, map, length, ℤ, vec_items}
 use Rattle.rules.specs.Pairs as rules
 use Rattle.rules.specs.Pairs.{after_pair}

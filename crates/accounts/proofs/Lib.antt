@@ -1,2 +1,3 @@
 pub mod Rows
 mod Moved
+pub mod FourMoves

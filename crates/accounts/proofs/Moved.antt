@@ -1,14 +1,13 @@
 -- A pair that nothing stops has room and cover on both rows, and its two legs are the pair's.
-use Rattle.std.proofs.Common.{◌≡◌, ℕ, eqb, ◌⊎◌, ℤ, pos, ◌+ℤ◌, neg_ℤ, ◌≤ℤ◌, ◌≤◌, List, [], ◌∷◌, get_or, vec_items, None, sym, refl, ap, ◌∙◌, subst, inl, inr, arith}
+use Rattle.std.proofs.Common.{◌≡◌, ℕ, eqb, ◌⊎◌, ℤ, pos, ◌+ℤ◌, neg_ℤ, ◌≤ℤ◌, ◌≤◌, get_or, vec_items, None, sym, refl, ap, ◌∙◌, subst, inl, inr, arith}
 use mathlib.Core.Path.{fun_ext}
 use borrow.Author.Differences.{ints}
 use Rattle.std.proofs.lemmas.Bool.{cases_eq, cond-true, cond-false, eq-eqb, ne_eqb}
 use Rattle.rules.specs.Below.{with_at}
 use Rattle.rules.specs.Bounds.{most_units}
-use Rattle.rules.specs.First.{Case, Never, first_of}
+use Rattle.rules.specs.First.{Never, first_of}
 use Rattle.rules.specs.Pairs.{after_pair}
-use Rattle.rules.specs.Setting.{Setting}
-use Rattle.rules.specs.Tests.{Stop, failures, stops, fails_1, fails_2, fails_3, fails_4}
+use Rattle.rules.specs.Tests.{failures, stops}
 use Rattle.rules.proofs.Sum.{same_table}
 use Rattle.rules.proofs.Firsts.{first_none}
 use Rattle.intake.specs.declared.pair.Pair.{Pair}
@@ -20,7 +19,7 @@ use Rattle.accounts.specs.declared.after.After.{After}
 use Rattle.accounts.specs.Meaning.{setting_within, account, reserve_of}
 use Rattle.accounts.specs.Moves.{Moves}
 use Rattle.accounts.specs.Legs.{after_leg, row_after, mirrored, tests_on}
-use Rattle.accounts.proofs.Rows.{leg_of, first_row, second_row, other_row}
+use Rattle.accounts.proofs.Rows.{leg_of, tests_at, first_row, second_row, other_row}
 
 pub with_here : {A : Type 0} (f : ℕ → A) (n : ℕ) (x : A) → with_at f n x n ≡ x
 with_here f n x = cond-true (eqb n n) x (f n) (eq-eqb n n refl)
@@ -64,23 +63,15 @@ two_puts t u v m l y z two ey ez eu ev = ev ∙ same_table _ _ (λ m' c. elim (c
       ]
     ]
 
-by_parts : Setting → (ℕ → ℕ → ℕ) → (ℕ → ℤ) → (ℕ → ℤ) → ℕ → ℕ → Leg → Leg → List (Case Stop)
-by_parts s r x y m n l k =
-    fails_1 r (λ _. x) m l.buys ∷ fails_1 r (λ _. y) n k.buys
-    ∷ fails_2 s (λ _. x) m l.sells ∷ fails_2 s (λ _. y) n k.sells
-    ∷ fails_3 s (λ _. x) m ∷ fails_3 s (λ _. y) n
-    ∷ fails_4 s (λ _. x) m ∷ fails_4 s (λ _. y) n
-    ∷ []
-
--- the rows after a pair are those that its tests look at
-pub stops_by_rows : (f : Accounts) (p : Pair) (x y : After) → row_after x ≡ after_leg (account f p.first) (leg_of p) → row_after y ≡ after_leg (account f p.second) (mirrored (leg_of p))
+-- the rows of these accounts after both legs are those that the pair's tests look at
+pub stops_of_rows : (f : Accounts) (p : Pair) (x y : After) → row_after x ≡ after_leg (account f p.first) (leg_of p) → row_after y ≡ after_leg (account f p.second) (mirrored (leg_of p))
     → x.member ≡ p.first → y.member ≡ p.second → x.leg ≡ leg_of p → y.leg ≡ mirrored (leg_of p)
     → first_of (tests_on (setting_within f) (reserve_of f) x y) ≡ stops (setting_within f) (reserve_of f) (account f) (pair_of p)
-unfolding stops by_parts
-stops_by_rows f p x y ex ey em en el ek =
+unfolding stops
+stops_of_rows f p x y ex ey em en el ek =
     let row_x = ex ∙ first_row (account f) (pair_of p) p.matched.0 in
     let row_y = ey ∙ second_row (account f) (pair_of p) p.matched.0 in
-    λ i. first_of (by_parts (setting_within f) (reserve_of f) (row_x i) (row_y i) (em i) (en i) (el i) (ek i))
+    λ i. first_of (tests_at (setting_within f) (reserve_of f) (row_x i) (row_y i) (em i) (en i) (el i).buys (el i).sells (ek i).buys (ek i).sells)
 
 module _ (f : Accounts) (p : Pair) (free : stops (setting_within f) (reserve_of f) (account f) (pair_of p) ≡ None) where
   passed : Never (failures (setting_within f) (reserve_of f) (account f) (pair_of p))

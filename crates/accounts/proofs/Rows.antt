@@ -1,5 +1,5 @@
 -- A pair on each party's row.
-use Rattle.std.proofs.Common.{◌≡◌, ℕ, Bool, cond, ◌&&◌, eqb, ℤ, pos, ◌+ℤ◌, ◌-ℤ◌, sym, refl, ap, arith, ◌≤◌}
+use Rattle.std.proofs.Common.{◌≡◌, ℕ, Bool, cond, ◌&&◌, eqb, List, [], ◌∷◌, ℤ, pos, ◌+ℤ◌, ◌-ℤ◌, sym, refl, ap, arith, ◌≤◌}
 use Rattle.std.proofs.Math.Path.{to_path_p}
 use Rattle.std.proofs.Math.Bridge.{le_prop}
 use Rattle.rules.specs.Bounds.{most_units}
@@ -7,8 +7,11 @@ use mathlib.Core.Path.{fun_ext}
 use borrow.Author.Differences.{ints}
 use Rattle.std.proofs.lemmas.Bool.{eq-eqb, cond_both}
 use Rattle.rules.specs.Sums.{only}
+use Rattle.rules.specs.First.{Case, first_of}
 use Rattle.rules.specs.Pairs as rules
 use Rattle.rules.specs.Pairs.{after_pair}
+use Rattle.rules.specs.Setting.{Setting}
+use Rattle.rules.specs.Tests.{Stop, stops, fails_1, fails_2, fails_3, fails_4}
 use Rattle.rules.proofs.Sum.{only_other}
 use Rattle.book.specs.Rows.{position}
 use Rattle.accounts.specs.declared.accounts.Accounts.{Accounts}
@@ -18,7 +21,7 @@ use Rattle.intake.specs.declared.pair.Pair.{Pair}
 use Rattle.accounts.specs.Meaning.{account}
 use Rattle.accounts.specs.Legs.{at, after_leg, row_after, LegOf}
 
-only_row : (m c a k : ℕ) → only m c a m k ≡ at c a k
+pub only_row : (m c a k : ℕ) → only m c a m k ≡ at c a k
 only_row m c a k = ap (λ (b : Bool). cond (b && eqb c k) a 0) (eq-eqb m m refl)
 
 -- the leg of a pair's first party
@@ -34,6 +37,15 @@ leg_is p l h =
 -- the row of these accounts, member and leg
 pub row_is : (x : After) (f : Accounts) (m : ℕ) (l : Leg) → x.book.now ≡ f.book → x.member ≡ m → x.leg ≡ l → row_after x ≡ after_leg (account f m) l
 row_is x f m l e d h = λ i. after_leg (λ k. (position (e i) (d i) k).account.0) (h i)
+
+-- the tests on the rows x of the member m and y of n, by what each buys and sells, in order
+abbrev pub tests_at : Setting → (ℕ → ℕ → ℕ) → (ℕ → ℤ) → (ℕ → ℤ) → (m n buys sells buys' sells' : ℕ) → List (Case Stop)
+tests_at s r x y m n buys sells buys' sells' =
+    fails_1 r (λ _. x) m buys ∷ fails_1 r (λ _. y) n buys'
+    ∷ fails_2 s (λ _. x) m sells ∷ fails_2 s (λ _. y) n sells'
+    ∷ fails_3 s (λ _. x) m ∷ fails_3 s (λ _. y) n
+    ∷ fails_4 s (λ _. x) m ∷ fails_4 s (λ _. y) n
+    ∷ []
 
 module _ (b : ℕ → ℕ → ℤ) (p : rules.Pair) (apart : p.first ≡ p.second → ⊥) where
   pub first_row : (λ k. b p.first k +ℤ pos (at p.buys p.bought k) -ℤ pos (at p.sells p.sold k)) ≡ after_pair b p p.first
@@ -51,6 +63,11 @@ module _ (b : ℕ → ℕ → ℤ) (p : rules.Pair) (apart : p.first ≡ p.secon
       let g = only_other p.first p.sells p.sold p.second k apart in
       let h = only_other p.first p.buys p.bought p.second k apart in
       omega (arith, ints))
+
+  -- the rows after a pair are those that its tests look at
+  pub stops_by_rows : (s : Setting) (r : ℕ → ℕ → ℕ) → first_of (tests_at s r (λ k. b p.first k +ℤ pos (at p.buys p.bought k) -ℤ pos (at p.sells p.sold k)) (λ k. b p.second k +ℤ pos (at p.sells p.sold k) -ℤ pos (at p.buys p.bought k)) p.first p.second p.buys p.sells p.sells p.buys) ≡ stops s r b p
+  unfolding stops
+  stops_by_rows s r = λ i. first_of (tests_at s r (first_row i) (second_row i) p.first p.second p.buys p.sells p.sells p.buys)
 
   -- no other row moves
   pub other_row : (m : ℕ) → (m ≡ p.first → ⊥) → (m ≡ p.second → ⊥) → b m ≡ after_pair b p m

@@ -1,1 +1,4 @@
+pub mod Same
 pub mod Tables
+mod Lapsing
+pub mod Empty

@@ -7,6 +7,8 @@ use Rattle.std.specs.Simd.{first_chunks}
 use Rattle.rules.specs.Below.{listed}
 use Rattle.rules.specs.FileForm.{byte, four_bytes, eight_bytes}
 use Rattle.rules.specs.FileRecords.{MemberRecord, part, trimmed, trimmed_length, currency_from, member_from, instruction_from, step_from}
+use Rattle.dayfile.specs.declared.records.MemberRecord as records
+use Rattle.dayfile.specs.Meaning.{member_of}
 use Rattle.dayfile.proofs.Listed.{listed_same}
 
 pub byte_in_part : (f : List ℕ) (i n k : ℕ) → k < n → byte (part f i n) k ≡ byte f (i + k)
@@ -63,9 +65,13 @@ step_in_part f i =
     let at : (k : ℕ) → k < 8 → byte (part f i 8) k ≡ byte f (i + k) = byte_in_part f i 8 in
     simp (at 0 (lit< tt), at 1 (lit< tt), at 2 (lit< tt), at 3 (lit< tt), at 4 (lit< tt), at 5 (lit< tt), at 6 (lit< tt), at 7 (lit< tt), add-zero, add_assoc)
 
--- a member that is read by its parts
-pub member_read : (f name shorts : List ℕ) (aggregate n : ℕ) → length f ≡ 24 + 4 * n → name ≡ trimmed (part f 0 16) → aggregate ≡ eight_bytes f 16 → shorts ≡ part f 24 (4 * n) → (let m : MemberRecord = record { name = name; aggregate = aggregate; shorts = listed (length shorts / 4) (λ c. four_bytes shorts (4 * c)) } in m ≡ member_from f n 0)
-member_read f name shorts aggregate n h named summed e = let limits = shorts_in_part f shorts 24 n (omega arith) e in cc
+-- a member that is read by its parts, at a place that the code reckons
+pub member_read : (f : List ℕ) (m : records.MemberRecord) (n n' at at' : ℕ) → n ≡ n' → at ≡ at' → at + 24 + 4 * n ≤ length f → m.name.now ≡ trimmed (part f at 16) → m.aggregate ≡ eight_bytes f (at + 16) → m.shorts.now ≡ part f (at + 24) (4 * n) → member_of m ≡ member_from f n' at'
+member_read f m n n' at at' e e' h name aggregate shorts = let limits = shorts_in_part f m.shorts.now (at + 24) n h shorts in rw (← e, ← e') (cc)
+
+-- the same of a record's own bytes
+pub member_alone : (f name shorts : List ℕ) (aggregate n : ℕ) → length f ≡ 24 + 4 * n → name ≡ trimmed (part f 0 16) → aggregate ≡ eight_bytes f 16 → shorts ≡ part f 24 (4 * n) → (let m : MemberRecord = record { name = name; aggregate = aggregate; shorts = listed (length shorts / 4) (λ c. four_bytes shorts (4 * c)) } in m ≡ member_from f n 0)
+member_alone f name shorts aggregate n h named summed e = let limits = shorts_in_part f shorts 24 n (omega arith) e in cc
 
 -- the c-th of the first n pieces of four bytes
 pub piece_at : (n c : ℕ) (f : List ℕ) → c < n → slice_index_or (first_chunks 4 n f) c [] ≡ part f (4 * c) 4
@@ -73,8 +79,14 @@ piece_at zero c f h = absurd (omega arith)
 piece_at (suc n) zero f h = refl
 piece_at (suc n) (suc c) f h = let e : 4 * suc c ≡ 4 + 4 * c = omega arith in rw (e, piece_at n c (drop 4 f) (omega arith), drop-drop)
 
+-- one byte fewer of a name, where it is a space
+pub space : (s : List ℕ) (n : ℕ) → 0 < n → get_or s (n - 1) 0 ≡ 32 → trimmed_length s n ≡ trimmed_length s (n - 1)
+unfolding trimmed_length
+space s zero h e = absurd (omega arith)
+space s (suc n) h e = let k : suc n - 1 ≡ n = omega arith in rw (k, eq-eqb (get_or s n 0) 32 (rw k at e))
+
 -- n bytes are left of the first m, where those after them are spaces and the last of them is none
-trimmed_to : (s : List ℕ) (n m : ℕ) → n ≤ m → ((k : ℕ) → n ≤ k → k < m → get_or s k 0 ≡ 32) → (0 < n → get_or s (n - 1) 0 ≢ 32) → trimmed_length s m ≡ n
+pub trimmed_to : (s : List ℕ) (n m : ℕ) → n ≤ m → ((k : ℕ) → n ≤ k → k < m → get_or s k 0 ≡ 32) → (0 < n → get_or s (n - 1) 0 ≢ 32) → trimmed_length s m ≡ n
 unfolding trimmed_length
 trimmed_to s n zero l spaces last = omega arith
 trimmed_to s n (suc m) l spaces last = ⊎_elim

@@ -1,5 +1,5 @@
 -- Records with which nothing is wrong.
-use Rattle.std.proofs.Common.{◌≡◌, ℕ, suc, ◌-◌, ◌<◌, ◌≤◌, Bool, true, false, ◌||◌, eqb, List, [], ◌∷◌, map, length, get_or, Some, None, Option, refl, ap, ◌∙◌, arith}
+use Rattle.std.proofs.Common.{◌≡◌, ℕ, zero, suc, ◌+◌, ◌-◌, ◌<◌, ◌≤◌, Bool, true, false, ◌||◌, eqb, List, [], ◌∷◌, map, length, get_or, take, Some, None, Option, sym, refl, ap, ◌∙◌, arith}
 use Rattle.std.proofs.Math.Seq.{drop-cons, drop-length}
 use denote.Param.Members.{Mut}
 use denote.Ref.{Bor}
@@ -13,7 +13,8 @@ use Rattle.std.specs.declared.slice.Iter.{Iter}
 use Rattle.std.proofs.lemmas.Iterator.{YieldsList-from_slice}
 use Rattle.std.proofs.lemmas.Iterator.Search.{any_from_yields_List}
 use Rattle.std.proofs.ByRecursion.{All-weaker}
-use Rattle.std.proofs.lemmas.Bool.{or_parts, or_from, not-false, eqb-true}
+use Rattle.std.proofs.lemmas.List.{take_all}
+use Rattle.std.proofs.lemmas.Bool.{or_parts, or_from, or_left, or_right, not-false, eqb-true}
 use Rattle.std.proofs.lemmas.Bool.Decides.{nat_tests}
 use Rattle.rules.proofs.Firsts.{first_none}
 use Rattle.dayfile.proofs.Few.{few_from}
@@ -44,6 +45,23 @@ sound d e =
       names = all_from_none name_wrong d.members never.1.1.0;
       shorts = All-weaker (λ m. shorts_wrong n m ≡ false) (λ m. length m.shorts ≡ n) (λ m h. eqb-true (length m.shorts) n (not-false (eqb (length m.shorts) n) h)) d.members (all_from_none (shorts_wrong n) d.members never.1.1.1.0);
     }
+
+-- a loop that looks for a record that passes a test
+pub look_more : {A B : Type 0} (p : B → Bool) (of : A → B) (xs : List A) (i : ℕ) (x : A) → i < length xs → x ≡ get_or xs i x → some_of p (map of (take i xs)) ≡ false → p (of x) ≡ false → some_of p (map of (take (i + 1) xs)) ≡ false
+look_more p of (x ∷ xs) zero y h e none here = or_from (p (of x)) false (rw e at here) refl
+look_more p of (x ∷ xs) (suc i) y h e none here =
+    let parts = or_parts (p (of x)) (some_of p (map of (take i xs))) none in
+    let s : suc i + 1 ≡ suc (i + 1) = omega arith in
+    rw s (or_from (p (of x)) _ parts.0 (look_more p of xs i y (omega arith) e parts.1 here))
+look_more p of [] i y h e none here = absurd (omega arith)
+
+pub look_found : {A B : Type 0} (p : B → Bool) (of : A → B) (xs : List A) (i : ℕ) (x : A) → i < length xs → x ≡ get_or xs i x → p (of x) ≡ true → true ≡ some_of p (map of xs)
+look_found p of [] i y h e here = absurd (omega arith)
+look_found p of (x ∷ xs) zero y h e here = sym (or_left (p (of x)) (some_of p (map of xs)) (rw e at here))
+look_found p of (x ∷ xs) (suc i) y h e here = sym (or_right (p (of x)) (some_of p (map of xs)) (sym (look_found p of xs i y (omega arith) e here)))
+
+pub look_all : {A B : Type 0} (p : B → Bool) (of : A → B) (xs : List A) (i : ℕ) → length xs ≤ i → some_of p (map of (take i xs)) ≡ false → false ≡ some_of p (map of xs)
+look_all p of xs i h none = sym (rw (take_all i xs h) at none)
 
 -- a search for a record that passes a test, by what the records mean
 some_is_any : {A B : Type 0} (p : B → Bool) (of : A → B) (xs : List A) → list_any (λ x. p (of x)) xs ≡ some_of p (map of xs)

@@ -1,6 +1,7 @@
 -- The waiting pairs while a pass filters them.
-use Rattle.std.proofs.Common.{◌≡◌, ℕ, ◌+◌, ◌<◌, ◌≤◌, true, false, is_some, List, [], ◌∷◌, ◌++◌, map, length, get_or, take, drop, set, ℤ, Some, None, vec_items, Option, sym, refl, ap, ◌∙◌, arith}
-use Rattle.std.proofs.lemmas.List.{length-set, get_or-drop, take_more_set, drop-set-lt, drop_more, drop_all, append_assoc, append-nil, map-append}
+use Rattle.std.proofs.Common.{◌≡◌, ℕ, ◌+◌, ◌<◌, ◌≤◌, true, false, is_some, List, [], ◌∷◌, ◌++◌, map, length, get_or, take, drop, set, ℤ, Some, None, vec_items, Option, sym, refl, ap, ◌∙◌, subst, inl, inr, arith}
+use Rattle.std.proofs.lemmas.Bool.{cases_eq}
+use Rattle.std.proofs.lemmas.List.{get_or-set_same, get_or-set_other, length-set, get_or-drop, take_more_set, drop-set-lt, drop_more, drop_all, append_assoc, append-nil, map-append}
 use Rattle.std.proofs.lemmas.Grind.{drop_more_same}
 use Rattle.rules.specs.Pairs as rules
 use Rattle.rules.specs.Pairs.{after_pair}
@@ -10,7 +11,7 @@ use Rattle.rules.specs.Settle.{Passed, pass, passed_by, and_settled, and_waiting
 use Rattle.ledger.specs.declared.ledger.Ledger.{Ledger}
 use Rattle.accounts.specs.declared.accounts.Accounts.{Accounts}
 use Rattle.intake.specs.declared.pair.Pair.{Pair}
-use Rattle.intake.specs.Parties.{no_pair, pair_of}
+use Rattle.intake.specs.Parties.{Within, Listed, no_pair, pair_of}
 use Rattle.accounts.specs.declared.stop.Stop as accounts
 use Rattle.accounts.specs.Meaning.{setting_for, setting_within, account, reserve_of, stopped, stop_of}
 use Rattle.accounts.specs.Moves.{Moves}
@@ -22,6 +23,18 @@ pub record ComesTo (old new : Ledger) (t : ℕ → ℕ → ℤ) (ws : List Pair)
   pub waits : vec_items new.waiting ≡ ws
   pub pairs_stay : new.pairs ≡ old.pairs
   pub hour_stays : new.hour ≡ old.hour
+
+-- of pairs whose parties and currencies are all within m and c, each is, and so they are when one more such pair is written
+pub listed_at : (ps : List Pair) (m c i : ℕ) (p : Pair) → Listed ps m c → i < length ps → p ≡ get_or ps i no_pair → Within p m c
+listed_at ps m c i p h l e = subst (λ (x : Pair). Within x m c) (sym e) (h i l)
+
+pub listed_set : (ps : List Pair) (m c k : ℕ) (p : Pair) → Listed ps m c → Within p m c → Listed (set ps k p) m c
+listed_set ps m c k p h w j l =
+    let l' : j < length ps = let e = length-set ps k p in omega arith in
+    elim (cases_eq j k) [
+      | inl e ↦ subst (λ (x : ℕ). Within (get_or (set ps k p) x no_pair) m c) (sym e) (subst (λ (x : Pair). Within x m c) (sym (get_or-set_same ps k p no_pair (subst (λ (x : ℕ). x < length ps) e l'))) w)
+      | inr n ↦ subst (λ (x : Pair). Within x m c) (sym (get_or-set_other ps k j p no_pair n)) (h j l')
+    ]
 
 -- ---- one turn in the law's pass
 pub pass_moves_on : (s : Setting) (r : ℕ → ℕ → ℕ) (b : ℕ → ℕ → ℤ) (p : rules.Pair) (ps : List rules.Pair) → stops s r b p ≡ None → pass s r b (p ∷ ps) ≡ and_settled p (pass s r (after_pair b p) ps)
@@ -47,12 +60,32 @@ pub record SoFar (o n : Ledger) (i k : ℕ) : Type 0 where
   pub waiting_are : (passed o).waiting ≡ map pair_of (take k (vec_items n.waiting)) ++ (rest_of o (account n.accounts) i).waiting
   pub settled_are : length (passed o).settled + k ≡ i + length (rest_of o (account n.accounts) i).settled
 
+pub began : (o : Ledger) → SoFar o o 0 0
+began o = record {
+  few = omega arith;
+  size = refl;
+  holdings = record { accounts = refl; reserves = refl; ins = refl; outs = refl; sheets = refl; rosters = refl };
+  pairs_stay = refl;
+  hour_stays = refl;
+  untested = refl;
+  balances_are = refl;
+  waiting_are = refl;
+  settled_are = omega arith;
+}
+
 pub same_setting : (f g : Accounts) (t : ℕ → ℕ → ℤ) → Moves f g t → setting_within g ≡ setting_within f
 same_setting f g t h = λ i. setting_for (λ p q. false) [] (h.sheets i) (h.rosters i)
 
+pub then_moves : (f g h : Accounts) (t u : ℕ → ℕ → ℤ) → Moves f g t → Moves g h u → Moves f h u
+then_moves f g h t u x y = record
+    { accounts = y.accounts; reserves = y.reserves ∙ x.reserves; ins = y.ins ∙ x.ins; outs = y.outs ∙ x.outs; sheets = y.sheets ∙ x.sheets; rosters = y.rosters ∙ x.rosters }
+
+pub settled_in : (f g : Accounts) (t : ℕ → ℕ → ℤ) → Moves f g t → Moves f g (account g)
+settled_in f g t x = record { accounts = refl; reserves = x.reserves; ins = x.ins; outs = x.outs; sheets = x.sheets; rosters = x.rosters }
+
 -- accounts that have moved, and then move again
 pub goes_on : (f g h : Accounts) (t u : ℕ → ℕ → ℤ) → Moves f g t → Moves g h u → Moves f h (account h)
-goes_on f g h t u x y = record { accounts = refl; reserves = y.reserves ∙ x.reserves; ins = y.ins ∙ x.ins; outs = y.outs ∙ x.outs; sheets = y.sheets ∙ x.sheets; rosters = y.rosters ∙ x.rosters }
+goes_on f g h t u x y = settled_in f h u (then_moves f g h t u x y)
 
 -- a test that answers nothing, and one that answers a stop
 nothing : (r : Option accounts.Stop) → is_some r ≡ false → stopped r ≡ None

@@ -1,2 +1,3 @@
 mod Filter
 mod Passing
+mod Numbers

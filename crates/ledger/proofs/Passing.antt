@@ -14,19 +14,19 @@ use Rattle.ledger.specs.Turns.{passed, Leaves, settled_all}
 use Rattle.ledger.proofs.Filter.{same_setting, goes_on, comes_over}
 
 -- a pass that settles nothing changes nothing
-idle : (s : Setting) (r : ℕ → ℕ → ℕ) (b : ℕ → ℕ → ℤ) (ws : List rules.Pair) → length (pass s r b ws).settled ≡ 0 → ((pass s r b ws).balances ≡ b) × ((pass s r b ws).waiting ≡ ws)
+pub idle : (s : Setting) (r : ℕ → ℕ → ℕ) (b : ℕ → ℕ → ℤ) (ws : List rules.Pair) → length (pass s r b ws).settled ≡ 0 → ((pass s r b ws).balances ≡ b) × ((pass s r b ws).waiting ≡ ws)
 unfolding pass
 idle s r b [] z = (refl, refl)
 idle s r b (p ∷ ps) z = pass_cases s r b p ps (λ x. length x.settled ≡ 0 → (x.balances ≡ b) × (x.waiting ≡ p ∷ ps))
     (λ e z. absurd (omega arith))
     (λ t e z. let h = idle s r b ps z in (h.0, ap (λ (qs : List rules.Pair). p ∷ qs) h.1)) z
 
-passes_stop : (k : ℕ) (s : Setting) (r : ℕ → ℕ → ℕ) (b : ℕ → ℕ → ℤ) (ws : List rules.Pair) → length (pass s r b ws).settled ≡ 0 → passes k s r b ws ≡ record { balances = b; settled = []; waiting = ws; made = 1 }
+pub passes_stop : (k : ℕ) (s : Setting) (r : ℕ → ℕ → ℕ) (b : ℕ → ℕ → ℤ) (ws : List rules.Pair) → length (pass s r b ws).settled ≡ 0 → passes k s r b ws ≡ record { balances = b; settled = []; waiting = ws; made = 1 }
 unfolding passes
 passes_stop zero s r b ws z = refl
 passes_stop (suc k) s r b ws z = passes_cases k s r b ws (λ x. x ≡ record { balances = b; settled = []; waiting = ws; made = 1 }) (λ _. refl) (λ l. absurd (omega arith))
 
-passes_go : (j k : ℕ) (s : Setting) (r : ℕ → ℕ → ℕ) (b : ℕ → ℕ → ℤ) (ws : List rules.Pair) → j ≡ k + 1 → 0 < length (pass s r b ws).settled → passes j s r b ws ≡ and_before (pass s r b ws).settled (passes k s r (pass s r b ws).balances (pass s r b ws).waiting)
+pub passes_go : (j k : ℕ) (s : Setting) (r : ℕ → ℕ → ℕ) (b : ℕ → ℕ → ℤ) (ws : List rules.Pair) → j ≡ k + 1 → 0 < length (pass s r b ws).settled → passes j s r b ws ≡ and_before (pass s r b ws).settled (passes k s r (pass s r b ws).balances (pass s r b ws).waiting)
 passes_go j k s r b ws e l =
     let f : j ≡ suc k = omega arith in
     rw f (passes_cases k s r b ws (λ x. x ≡ and_before (pass s r b ws).settled (passes k s r (pass s r b ws).balances (pass s r b ws).waiting)) (λ z. absurd (omega arith)) (λ _. refl))
@@ -45,6 +45,22 @@ pub record UnderWay (o n : Ledger) (done made : ℕ) : Type 0 where
   pub waiting_are : (settled_all o).waiting ≡ (still o n made).waiting
   pub settled_are : length (settled_all o).settled ≡ done + length (still o n made).settled
   pub made_are : (settled_all o).made ≡ made + (still o n made).made
+
+pub begun : (o : Ledger) → UnderWay o o 0 0
+begun o =
+    let z : length (queue_of o) ≡ length (queue_of o) - 0 = omega arith in
+    let e = ap (λ (k : ℕ). passes k (setting_within o.accounts) (reserve_of o.accounts) (account o.accounts) (queue_of o)) z in
+    record {
+      holdings = record { accounts = refl; reserves = refl; ins = refl; outs = refl; sheets = refl; rosters = refl };
+      pairs_stay = refl;
+      hour_stays = refl;
+      shorter = omega arith;
+      fewer = omega arith;
+      balances_are = ap (λ (x : Settled). x.balances) e;
+      waiting_are = ap (λ (x : Settled). x.waiting) e;
+      settled_are = (let h = ap (λ (x : Settled). length x.settled) e in omega arith);
+      made_are = (let h = ap (λ (x : Settled). x.made) e in omega arith);
+    }
 
 module _ (o n n' : Ledger) (done made : ℕ) (h : UnderWay o n done made) (t : Leaves n n' (passed n).balances (passed n).waiting) where
   abbrev now : Passed

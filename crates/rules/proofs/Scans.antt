@@ -1,5 +1,5 @@
 -- Whether some number passes a test, and whether some item of a list does: `any` goes by the items, the rules by their places.
-use Rattle.std.proofs.Common.{◌≡◌, ℕ, zero, suc, ◌<◌, Bool, true, false, ◌||◌, Option, List, [], ◌∷◌, length, map, get_or, sym, refl, ap, ◌∙◌, ⊎_elim, arith}
+use Rattle.std.proofs.Common.{◌≡◌, ℕ, zero, suc, ◌+◌, ◌<◌, Bool, true, false, ◌||◌, Option, List, [], ◌∷◌, length, map, get_or, sym, refl, ap, ◌∙◌, ⊎_elim, add-one, arith}
 use Rattle.std.proofs.iter.Yields.{fronts}
 use Rattle.std.specs.Fn.{Called}
 use Rattle.std.specs.Iterator.{YieldsThen}
@@ -7,13 +7,16 @@ use Rattle.std.specs.List.{FoldsTo, list_any}
 use Rattle.std.specs.Option.{MatchOption}
 use Rattle.std.specs.Slice.Iter.{iter_rest}
 use Rattle.std.specs.declared.slice.Iter.{Iter}
-use Rattle.std.proofs.lemmas.Bool.{or_left, or_right, cases_eq, cases_Bool, both_ways, or_cases, false≢true}
+use Rattle.std.proofs.lemmas.Bool.{or_from, or_left, or_right, cases_eq, cases_Bool, both_ways, or_cases, false≢true}
 use Rattle.std.proofs.lemmas.Iterator.{YieldsList-from_slice}
 use Rattle.std.proofs.lemmas.Iterator.Search.{any_from_yields_List}
 use Rattle.std.proofs.lemmas.List.{map-id}
 use Rattle.rules.specs.Below.{some_below}
 use denote.Param.Members.{Mut}
 use denote.Ref.{Bor}
+
+pub scan_more : (p : ℕ → Bool) (i : ℕ) → some_below i p ≡ false → p i ≡ false → some_below (i + 1) p ≡ false
+scan_more p i none here = rw add-one (or_from _ _ here none)
 
 pub scan_found : (p : ℕ → Bool) (n i : ℕ) → i < n → p i ≡ true → some_below n p ≡ true
 scan_found p zero i l e = absurd (omega arith)

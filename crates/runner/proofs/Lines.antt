@@ -47,5 +47,5 @@ unfolding statements
 statements_more s b p text new k t e = e ∙ rw (t, add-one k) (append_assoc p (statements s b k) (statement_of s b k))
 
 -- the lines of the whole day
-pub whole_day : (f t1 t2 t3 : List ℕ) (s : Setting) (b : Books) → t1 ≡ instruction_lines f (instructions_in f) → t2 ≡ t1 ++ step_lines f (steps_in f) → t3 ≡ t2 ++ statements s b (members_in f) → s ≡ setting_in f → b ≡ closed (books_after f (steps_in f)) → t3 ≡ day_lines f
-whole_day f t1 t2 t3 s b e1 e2 e3 p q = rw (e3, e2, e1, p, q, append_assoc)
+pub whole_day : (f old t1 t2 t3 : List ℕ) (s : Setting) (b : Books) (m : ℕ) → t1 ≡ old ++ instruction_lines f (instructions_in f) → t2 ≡ t1 ++ step_lines f (steps_in f) → t3 ≡ t2 ++ statements s b m → s ≡ setting_in f → b ≡ closed (books_after f (steps_in f)) → m ≡ members_in f → t3 ≡ old ++ day_lines f
+whole_day f old t1 t2 t3 s b m e1 e2 e3 p q n = rw (e3, e2, e1, p, q, n) (simp append_assoc)

@@ -2,3 +2,4 @@ mod Steps
 mod Free
 mod SettleCall
 mod Adding
+mod Opened

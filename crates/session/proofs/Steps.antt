@@ -40,8 +40,11 @@ parted s b (reserve m c a) = refl
 parted s b (pay r) = refl
 
 module _ (s : Setting) (b d : Books) (q : Call) where
-  turned_away : (e : rules.Refusal) → first_of (causes s b q) ≡ Some e → d ≡ b → Does s b q d (refused e)
+  pub turned_away : (e : rules.Refusal) → first_of (causes s b q) ≡ Some e → d ≡ b → Does s b q d (refused e)
   turned_away e f g = let h = responds s b q (Some e) f in record { left = g ∙ sym (ap (λ x. x.books) h); said = sym (ap (λ x. x.answer) h) }
+
+  pub let_through : first_of (causes s b q) ≡ None → d ≡ (accepted s b q).books → Does s b q d (accepted s b q).answer
+  let_through f g = let h = responds s b q None f in record { left = g ∙ sym (ap (λ x. x.books) h); said = sym (ap (λ x. x.answer) h) }
 
   pub refused_first : (e : rules.Refusal) → first_of (first_causes s b q) ≡ Some e → d ≡ b → Does s b q d (refused e)
   refused_first e f = turned_away e (ap first_of (parted s b q) ∙ some_then (first_causes s b q) (last_causes s b q) e f)
@@ -49,10 +52,8 @@ module _ (s : Setting) (b d : Books) (q : Call) where
   pub refused_last : (e : rules.Refusal) → first_of (first_causes s b q) ≡ None → first_of (last_causes s b q) ≡ Some e → d ≡ b → Does s b q d (refused e)
   refused_last e f l = turned_away e (ap first_of (parted s b q) ∙ none_then (first_causes s b q) (last_causes s b q) f ∙ l)
 
-  pub let_through : first_of (first_causes s b q) ≡ None → first_of (last_causes s b q) ≡ None → d ≡ (accepted s b q).books → Does s b q d (accepted s b q).answer
-  let_through f l g =
-      let h = responds s b q None (ap first_of (parted s b q) ∙ none_then (first_causes s b q) (last_causes s b q) f ∙ l) in
-      record { left = g ∙ sym (ap (λ x. x.books) h); said = sym (ap (λ x. x.answer) h) }
+  pub let_through_both : first_of (first_causes s b q) ≡ None → first_of (last_causes s b q) ≡ None → d ≡ (accepted s b q).books → Does s b q d (accepted s b q).answer
+  let_through_both f l = let_through (ap first_of (parted s b q) ∙ none_then (first_causes s b q) (last_causes s b q) f ∙ l)
 
 -- in a currency that the nostro has, the session refuses for the cash where the nostro does, and names the member too
 module _ (m c n : ℕ) (over : Bool) (l : c ≤ last_number) where

@@ -1,1 +1,4 @@
+mod Three
 mod Rounding
+mod Products
+pub mod Sums

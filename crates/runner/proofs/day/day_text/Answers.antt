@@ -1,4 +1,4 @@
-use Rattle.std.proofs.Common.{◌≡◌, ℕ, List, None, Err, vec_items, ap, ◌∙◌, subst}
+use Rattle.std.proofs.Common.{◌≡◌, ℕ, List, [], None, Err, vec_items, refl, ap, ◌∙◌, subst}
 use Rattle.std.proofs.lemmas.Result.{err_from_is_err_and}
 use Rattle.rules.specs.Setting.{Setting}
 use Rattle.rules.specs.Books.{closed}
@@ -74,5 +74,5 @@ returns c =
     let s : closed_setting D ≡ setting_in g = c.close.ensures.setting ∙ (rw same at c.in_ok-take_steps.ensures.setting) in
     let b : closed_books D ≡ closed (books_after g (steps_in g)) = c.close.ensures.books ∙ ap closed (rw same at c.in_ok-take_steps.ensures.books) in
     let none : day_refusal g ≡ None = nothing_ends g c.in_ok-day.day.formed c.in_ok-sheet.ensures.0 c.in_ok-roster.ensures.0 in
-    let lines : new ≡ day_lines g = whole_day g (vec_items c.submit_all.new.self.text) (vec_items c.take_steps.new.self.text) new (closed_setting D) (closed_books D) instructions steps statements s b in
+    let lines : new ≡ day_lines g = whole_day g [] (vec_items c.submit_all.new.self.text) (vec_items c.take_steps.new.self.text) new (closed_setting D) (closed_books D) _ instructions steps statements s b refl in
     subst (λ (f : List ℕ). (day_refusal f ≡ None) × (new ≡ day_lines f)) q.1 (none, lines)

@@ -4,7 +4,7 @@ use Rattle.std.proofs.lemmas.Result.{err_from_is_err_and}
 use Rattle.rules.specs.Bounds.{last_hour}
 use Rattle.rules.specs.Calls.{accepted}
 use Rattle.rules.proofs.Firsts.{at_first, at_next}
-use Rattle.session.proofs.Steps.{refused_last, let_through}
+use Rattle.session.proofs.Steps.{refused_last, let_through_both}
 use Rattle.session.proofs.session.Session.clock.Goals.{then-hour-self, else-hour-self}
 use Rattle.session.proofs.session.Session.clock.Goals as goal
 
@@ -33,4 +33,4 @@ returns g c =
       | then-hour-self w ↦ clash (sym e ∙ w.refuse_if-is ∙ lt-ltb h now w.if-hour-self.true)
       | else-hour-self w ↦ or_from (ltb h now) (ltb last_hour h) (le-ltb h now w.if-hour-self.false) (sym w.refuse_if-is ∙ e)
     ] in
-    (refl, let_through _ _ _ _ refl (at_next _ [] None fails refl) refl)
+    (refl, let_through_both _ _ _ _ refl (at_next _ [] None fails refl) refl)

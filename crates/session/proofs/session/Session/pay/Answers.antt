@@ -5,7 +5,7 @@ use Rattle.rules.specs.Calls.{accepted}
 use Rattle.rules.proofs.Responses.{same_books}
 use Rattle.nostro.proofs.Cash.{cash-spent}
 use Rattle.book.proofs.Tables.{put_raised, put_lowered, put_kept}
-use Rattle.session.proofs.Steps.{refused_first, refused_last, let_through, passed_on}
+use Rattle.session.proofs.Steps.{refused_first, refused_last, let_through_both, passed_on}
 use Rattle.session.proofs.session.Session.pay.Goals as goal
 
 pub returns-in_err-position : goal.returns-in_err-position
@@ -30,7 +30,7 @@ returns g c =
     let p = c.put.ensures.put (omega (arith, h.0.0, x.even), omega (arith, h.0.1, x.sheet.few)) in
     let o = passed_on r.member r.currency 20 (ltb (g.N.Nostro.cash c.args.self.now.nostro r.currency) r.amount.0) l _ _ c.pay-2.result (Ok c.in_ok-map_err.field-0) c.pay-2.ensures (MatchResult-weaker c.pay-2.result c.in_ok-map_err.ensures.cases (λ x k. k) (λ e k. absurd k)) in (
       refl,
-      let_through _ _ _ _ h.1 o.0 (same_books _ _
+      let_through_both _ _ _ _ h.1 o.0 (same_books _ _
           (put_kept (λ x. x.account.0) _ _ _ _ _ p h.2.account_is) (put_lowered _ _ _ _ _ p _ (λ x. x.reserved.0) h.2.reserved_is)
           (put_kept (λ x. x.paid_in.0) _ _ _ _ _ p h.2.in_is) (put_raised _ _ _ _ _ p _ (λ x. x.paid_out.0) h.2.out_is)
           refl refl (cash-spent _ _ _ _ o.1)),

@@ -6,7 +6,7 @@ use Rattle.rules.specs.Calls.{accepted}
 use Rattle.rules.proofs.Responses.{same_books}
 use Rattle.nostro.proofs.Cash.{cash-received}
 use Rattle.book.proofs.Tables.{put_credited, put_raised, put_kept}
-use Rattle.session.proofs.Steps.{refused_first, refused_last, let_through, passed_on}
+use Rattle.session.proofs.Steps.{refused_first, refused_last, let_through_both, passed_on}
 use Rattle.session.proofs.session.Session.pay_in.Goals as goal
 
 pub returns-in_err-position : goal.returns-in_err-position
@@ -29,7 +29,7 @@ returns g c =
     let p = c.put.ensures.put (omega (arith, h.0.0, x.even), omega (arith, h.0.1, x.sheet.few)) in
     let o = passed_on c.args.member c.args.currency 16 (ltb most_sum (g.N.Nostro.cash c.args.self.now.nostro c.args.currency + c.args.amount.0)) l _ _ c.receive.result (Ok c.in_ok-map_err.field-0) c.receive.ensures (MatchResult-weaker c.receive.result c.in_ok-map_err.ensures.cases (λ x k. k) (λ e k. absurd k)) in (
       refl,
-      let_through _ _ _ _ h.2 o.0 (same_books _ _
+      let_through_both _ _ _ _ h.2 o.0 (same_books _ _
           (put_credited _ _ _ _ _ p _ (λ x. x.account.0) h.3.account_is) (put_kept (λ x. x.reserved.0) _ _ _ _ _ p h.3.reserved_is)
           (put_raised _ _ _ _ _ p _ (λ x. x.paid_in.0) h.3.in_is) (put_kept (λ x. x.paid_out.0) _ _ _ _ _ p h.3.out_is)
           refl refl (cash-received _ _ _ _ o.1)),

@@ -5,7 +5,7 @@ use Rattle.rules.specs.Calls.{accepted}
 use Rattle.rules.proofs.Firsts.{at_first, at_next}
 use Rattle.rules.proofs.Responses.{same_books}
 use Rattle.book.proofs.Tables.{put_debited, put_raised, put_kept}
-use Rattle.session.proofs.Steps.{refused_first, refused_last, let_through}
+use Rattle.session.proofs.Steps.{refused_first, refused_last, let_through_both}
 use Rattle.session.proofs.Free.{free_short, free_enough}
 use Rattle.session.proofs.session.Session.reserve.Goals as goal
 
@@ -32,7 +32,7 @@ returns g c =
     let enough : c.args.amount.0 ≤ c.saturating_sub-free.result.0 = search rules in
     let w = free_enough (g.N.Nostro.cash c.args.self.now.nostro) c.args.currency c.args.amount.0 _ c.saturating_sub-free.result.0 _ _ l c.saturating_sub-free.ensures c.cash_in-cash.ensures c.reserved_in.ensures.value enough in (
       refl,
-      let_through _ _ _ _ h.2 (at_next _ [] None (le-ltb _ _ w) refl) (same_books _ _
+      let_through_both _ _ _ _ h.2 (at_next _ [] None (le-ltb _ _ w) refl) (same_books _ _
           (put_debited _ _ _ _ _ p _ (λ x. x.account.0) h.3.account_is) (put_raised _ _ _ _ _ p _ (λ x. x.reserved.0) h.3.reserved_is)
           (put_kept (λ x. x.paid_in.0) _ _ _ _ _ p h.3.in_is) (put_kept (λ x. x.paid_out.0) _ _ _ _ _ p h.3.out_is)
           refl refl refl),

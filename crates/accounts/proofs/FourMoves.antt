@@ -1,5 +1,5 @@
--- A pair that nothing stops, in any setting: where it credits there is room, where it debits there is cover, and its four moves are
--- the pair's.
+-- A pair that nothing stops, in any setting where the two short limits are in range: where it credits there is room, where it debits
+-- there is cover, and its four moves are the pair's.
 use Rattle.std.proofs.Common.{◌≡◌, ℕ, ◌≤◌, ℤ, pos, ◌+ℤ◌, ◌-ℤ◌, neg_ℤ, ◌≤ℤ◌, None, sym, inr, arith}
 use borrow.Author.Differences.{ints}
 use Rattle.rules.specs.Bounds.{most_units}
